@@ -1,0 +1,2 @@
+//! Exact fractions whose numerator and denominator stay in range.
+#![tactic(auto)]

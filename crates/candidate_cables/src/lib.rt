@@ -1,0 +1,2 @@
+//! The candidate arcs of a site, numbered.
+#![tactic(auto)]

@@ -1,0 +1,2 @@
+//! The laws of fractions in lowest terms.
+#![tactic(auto)]

@@ -1,0 +1,2 @@
+//! The laws of walks, loads and layouts.
+#![tactic(auto)]

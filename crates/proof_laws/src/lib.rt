@@ -1,0 +1,2 @@
+//! The laws of rows, weights and proof trees.
+#![tactic(auto)]

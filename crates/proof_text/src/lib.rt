@@ -1,0 +1,2 @@
+//! The lines of a document, read and written.
+#![tactic(auto)]

@@ -1,0 +1,2 @@
+//! Sites in line form, read and written.
+#![tactic(auto)]
