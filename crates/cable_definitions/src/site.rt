@@ -1,3 +1,6 @@
+ghost use Rattle.std.specs.Prelude.{◌≡◌, ◌↔◌, ◌≤◌, IsTrue, IsSome, IfSome, length};
+ghost use Rattle.cable_definitions.specs.Naming.{IsName, is_name_byte};
+
 use crate::place::Place;
 use std::marker::Model;
 
@@ -39,6 +42,49 @@ impl Model for Name {
     ghost view = { λ n. take n.len n.bytes };
 
     ghost invariant = { λ n. (n.len ≤ 16) × IsName (take n.len n.bytes) };
+}
+
+impl Name {
+    /// The name of these bytes; none exactly where they are no name.
+    pub fn new(bytes: &[u8]) -> Option<Name>
+        ensures valid { IsSome result ↔ IsName bytes.now }
+        ensures value { IfSome result (λ name. name ≡ bytes.now) }
+    {
+        if !is_name(bytes) {
+            return None;
+        }
+        let mut kept = [0u8; 16];
+        kept[..bytes.len()].copy_from_slice(bytes);
+        Some(Name {
+            bytes: kept,
+            len: bytes.len(),
+        })
+    }
+
+    /// The bytes of the name.
+    pub fn as_slice(&self) -> &[u8]
+        ensures value { result.now ≡ self.now }
+        ensures valid { IsName self.now }
+    {
+        &self.bytes[..self.len]
+    }
+}
+
+/// Whether the bytes are 1 to 16 letters, digits, `_`, `-` or `.`.
+fn is_name(bytes: &[u8]) -> bool
+    ensures { IsTrue result ↔ IsName bytes.now }
+{
+    if bytes.is_empty() || bytes.len() > 16 {
+        return false;
+    }
+    bytes.iter().all(|byte| is_name_byte(*byte))
+}
+
+/// Whether the byte may stand in a name.
+fn is_name_byte(byte: u8) -> bool
+    ensures { result ≡ is_name_byte byte }
+{
+    matches!(byte, b'A'..=b'Z' | b'a'..=b'z' | b'0'..=b'9' | b'_' | b'-' | b'.')
 }
 
 /// A turbine, a substation or a bend.
@@ -85,6 +131,22 @@ impl Model for Obstacle {
     ghost Value = { List Place };
 
     ghost view = { λ o. o.corners.items };
+}
+
+impl Obstacle {
+    /// The polygon with these corners.
+    pub fn new(corners: Vec<Place>) -> Obstacle
+        ensures { result ≡ corners.items }
+    {
+        Obstacle { corners }
+    }
+
+    /// The corners of the polygon.
+    pub fn as_slice(&self) -> &[Place]
+        ensures { result.now ≡ self.now }
+    {
+        self.corners.as_slice()
+    }
 }
 
 /// The rules that an item of a site may break, in their order.
