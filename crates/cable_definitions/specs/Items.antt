@@ -16,7 +16,7 @@ use Rattle.cable_definitions.specs.declared.site.SiteCode.{SiteCode}
 use Rattle.cable_definitions.specs.declared.site.SiteCode.TheVariants.{TooLong, Form, Shape, Range, BadName, SameName, SamePlace, UnknownName, SamePair, InObstacle, TooMany}
 use Rattle.cable_definitions.specs.Naming.{IsName}
 use Rattle.cable_definitions.specs.Plane.{IsOutside}
-use Rattle.cable_definitions.specs.Site.{Site}
+use Rattle.cable_definitions.specs.Site.{Site, version_number, latest_version}
 use Rattle.cable_definitions.specs.Text.{IsWord, Reads, Piece, Whole, LongLine, CutLine, NoLine, IsNext, words, mode_word, name_of}
 
 -- ---- items as they are written; a number is none where its word or member spells no number
@@ -57,15 +57,6 @@ raw_kind Bend = ABend
 abbrev pub raw_rule : PairRule → RawRule
 raw_rule (Charge amount) = ACharge (Some (pos amount))
 raw_rule Closed = AClosing
-
--- the number of a version
-abbrev pub version_number : Version → ℕ
-version_number One = 1
-version_number Two = 2
-
--- the highest version that is read: 1 as long as version 2 isn't built
-unfoldable pub latest_version : ℕ
-latest_version = 1
 
 -- ---- the site so far
 -- What good items have given: a stage (0 where the version is to come, 1 the mode, 2 types, 3 points, 4 obstacles, 5 pair rules, 6 nothing), the
