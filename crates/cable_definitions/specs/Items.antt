@@ -20,6 +20,7 @@ use Rattle.cable_definitions.specs.Site.{Site, version_number, latest_version}
 use Rattle.cable_definitions.specs.Text.{IsWord, Reads, Piece, Whole, LongLine, CutLine, NoLine, IsNext, words, mode_word, name_of}
 
 -- ---- items as they are written; a number is none where its word or member spells no number
+-- the kind of a point, with its numbers
 pub data RawKind : Type 0 where
   ATurbine : Option ℤ → RawKind
   ASubstation : Option ℤ → Option ℤ → RawKind
@@ -47,7 +48,7 @@ pub data RawItem : Type 0 where
   Missing : RawItem
   Overlong : RawItem
 
--- the items of a kind and of a rule in range
+-- a kind, as it is written
 abbrev pub raw_kind : Kind → RawKind
 raw_kind (Turbine power) = ATurbine (Some (pos power))
 raw_kind (Substation feeders power) = ASubstation (Some (pos feeders)) (Some (pos power))
