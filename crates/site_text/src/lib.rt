@@ -1,2 +1,4 @@
 //! Sites in line form, read and written.
 #![tactic(auto)]
+
+mod words;
