@@ -1,7 +1,8 @@
 ghost use Rattle.std.specs.Prelude.{◌≡◌, ◌↔◌, pos, ◌&&◌, int_le, int_lt, IsTrue};
 ghost use Rattle.cable_definitions.specs.Plane.{orient as oriented, counts_for, IsOutside};
 
-use crate::{lies_on, orient};
+use crate::on_segment::lies_on;
+use crate::orientation::orient;
 use cable_definitions::place::Place;
 
 /// Whether `p` stands left of the way from `a` to `b`.
