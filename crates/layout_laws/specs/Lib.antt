@@ -1,0 +1,2 @@
+-- lists of cables that differ in their order or in their types alone
+pub mod Alike

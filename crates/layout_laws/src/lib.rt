@@ -1,2 +1,4 @@
 //! The laws of walks, loads and layouts.
 #![tactic(auto)]
+
+pub mod order;
