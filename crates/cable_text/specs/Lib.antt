@@ -1,0 +1,3 @@
+-- What stands in contracts of streams, lines and numbers.
+pub mod Stream
+pub mod Number
