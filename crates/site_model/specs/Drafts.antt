@@ -1,0 +1,59 @@
+-- What holds of a site so far, whichever good items have led to it.
+use Rattle.std.specs.Prelude.{◌≡◌, ◌≢◌, ℕ, ◌+◌, ◌≤◌, ◌<◌, List, [], length, IsTrue, sum_by, All, AllPairs, Some, pos}
+use Rattle.cable_definitions.specs.declared.place.Place.{Place}
+use Rattle.cable_definitions.specs.declared.site.Version.{Version}
+use Rattle.cable_definitions.specs.declared.site.Version.TheVariants.{One}
+use Rattle.cable_definitions.specs.declared.site.Point.{Point}
+use Rattle.cable_definitions.specs.declared.site.CableType.{CableType}
+use Rattle.cable_definitions.specs.declared.site.Pair.{Pair}
+use Rattle.cable_definitions.specs.Naming.{IsName}
+use Rattle.cable_definitions.specs.Plane.{SamePlace, IsOutside}
+use Rattle.cable_definitions.specs.Site.{Site, IsCableType, IsKind, IsObstacle, IsPair, joins}
+use Rattle.cable_definitions.specs.Items.{Draft, RawItem, AType}
+
+-- at most 8 types, each in range
+pub record TypesFit (version : Version) (types : List CableType) : Type 0 where
+  pub count : length types ≤ 8
+  pub each : All (IsCableType version) types
+
+-- at most 256 points, each in range, with different names and different places
+pub record PointsFit (points : List Point) : Type 0 where
+  pub count : length points ≤ 256
+  pub names : All (λ p. IsName p.name) points
+  pub kinds : All (λ p. IsKind p.kind) points
+  pub names_differ : AllPairs (λ p q. p.name ≢ q.name) points
+  pub places_differ : AllPairs (λ p q. ¬ (SamePlace p.at q.at)) points
+
+-- The complete obstacles are in range and every point is outside of each; there is room for the open one, of which some corners are missing.
+pub record ObstaclesFit (points : List Point) (obstacles : List (List Place)) (corners : List Place) (missing : ℕ) : Type 0 where
+  pub count : length obstacles ≤ 64
+  pub each : All IsObstacle obstacles
+  pub corners_count : sum_by length obstacles + length corners + missing ≤ 1024
+  pub outside : All (λ o. All (λ p. IsOutside p.at o) points) obstacles
+  pub room : 1 ≤ missing → length obstacles < 64
+  pub enough : 1 ≤ missing → 3 ≤ length corners + missing
+
+-- the pair rules are on two different points of the site, in range, and no unordered pair is ruled twice
+pub record PairsFit (points : List Point) (pairs : List Pair) : Type 0 where
+  pub each : All (IsPair points) pairs
+  pub ruled_once : AllPairs (λ p q. ¬ IsTrue (joins p.a p.b q)) pairs
+
+-- types come after the mode, points after some type, obstacles after the points, and pair rules after the obstacles
+pub record StageFits (stage : ℕ) (site : Site) : Type 0 where
+  pub no_types : stage ≤ 1 → site.types ≡ []
+  pub some_types : 3 ≤ stage → 1 ≤ length site.types
+  pub no_obstacles : stage ≤ 3 → site.obstacles ≡ []
+  pub no_pairs : stage ≤ 4 → site.pairs ≡ []
+
+-- the site so far keeps every fact of a valid site but that it has some type
+pub record IsDraft (d : Draft) : Type 0 where
+  pub types : TypesFit d.site.version d.site.types
+  pub points : PointsFit d.site.points
+  pub obstacles : ObstaclesFit d.site.points d.site.obstacles d.corners d.missing
+  pub pairs : PairsFit d.site.points d.site.pairs
+  pub order : StageFits d.stage d.site
+
+-- in version 1 a type has no loss
+abbrev pub FitsVersion : Draft → RawItem → Type 0
+FitsVersion d (AType capacity price loss) = d.site.version ≡ One → loss ≡ Some (pos 0)
+FitsVersion d item = Unit {0}
