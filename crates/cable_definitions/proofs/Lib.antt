@@ -1,0 +1,14 @@
+-- places, cables and sites of the examples
+pub mod Sites
+-- lengths, walks, loads and costs that compute
+pub mod Costs
+-- rows, ceilings, budgets, the first rows of a search, and draws that compute
+pub mod Bounds
+-- segments that touch, pass and clash, and points beside, on and in a polygon
+pub mod Touching
+-- what cables stand in a list
+pub mod Lists
+-- rules that are broken, the first broken rule, and rules of rings and of tighter sites
+pub mod Rules
+-- whole plans: a farm without turbines, a turbine without a substation, and one cable
+pub mod Plans
