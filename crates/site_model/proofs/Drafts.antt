@@ -22,9 +22,9 @@ use Rattle.cable_definitions.specs.declared.site.Pair.{Pair}
 use Rattle.cable_definitions.specs.declared.site.SiteCode.TheVariants.{TooLong, Form, Shape, Range, BadName, SameName, SamePlace as Placed, UnknownName, SamePair, InObstacle, TooMany}
 use Rattle.cable_definitions.specs.Naming.{IsName, is_name_byte}
 use Rattle.cable_definitions.specs.Plane.{SamePlace, IsOutside, IsOn, edges, counts_for}
-use Rattle.cable_definitions.specs.Site.{Site, IsCableType, IsKind, IsObstacle, IsPairRule, IsPair, joins, IsValid}
+use Rattle.cable_definitions.specs.Site.{Site, version_number, latest_version, IsCableType, IsKind, IsObstacle, IsPairRule, IsPair, joins, IsValid}
 use Rattle.cable_definitions.specs.Text.{name_of}
-use Rattle.cable_definitions.specs.Items.{RawKind, RawItem, AVersion, AMode, AType, APoint, AnObstacle, ACorner, APair, TheEnd, Misshapen, Stray, Unended, Missing, Overlong, Draft, empty_draft, is_settled, may_stand, Field, within, fields_of, IsWithin, IsAt, raw_kind, raw_rule, version_number, IsOnNames, IsGood, Breaks, Adds, Builds, with_corner}
+use Rattle.cable_definitions.specs.Items.{RawKind, RawItem, AVersion, AMode, AType, APoint, AnObstacle, ACorner, APair, TheEnd, Misshapen, Stray, Unended, Missing, Overlong, Draft, empty_draft, is_settled, may_stand, Field, within, fields_of, IsWithin, IsAt, raw_kind, raw_rule, IsOnNames, IsGood, Breaks, Adds, Builds, with_corner}
 use Rattle.site_model.specs.Drafts.{TypesFit, PointsFit, ObstaclesFit, PairsFit, StageFits, IsDraft, FitsVersion}
 
 -- ---- facts that hold where they can't fail
@@ -89,6 +89,7 @@ settled_at d most h =
 -- no item has broken a fact
 pub IsDraft-empty : IsDraft empty_draft
 IsDraft-empty = record {
+  version = omega arith;
   types = record { count = omega arith; each = All-nil _ };
   points = record { count = omega arith; names = All-nil _; kinds = All-nil _; names_differ = λ i j d h l. absurd (omega arith); places_differ = λ i j d h l. absurd (omega arith) };
   obstacles = record { count = omega arith; each = All-nil _; corners_count = omega arith; outside = All-nil _; room = λ h. absurd (omega arith); enough = λ h. absurd (omega arith) };
@@ -104,11 +105,16 @@ TypesFit-none version other types none fit = record {
   each = subst (λ (ts : List CableType). All (IsCableType other) ts) (sym none) (All-nil _);
 }
 
+-- the item of a version
+abbrev version_item : Version → RawItem
+version_item version = AVersion (Some (pos (version_number version)))
+
 -- a version
-IsDraft-version : (d : Draft) (v : Option ℤ) (version : Version) → IsDraft d → IsGood d (AVersion v) → IsDraft (record d { stage = 1; site = record d.site { version = version } })
-IsDraft-version d v version draft good =
-    let first = eqb-true d.stage 0 (stands d (AVersion v) good) in
+IsDraft-version : (d : Draft) (version : Version) → IsDraft d → IsGood d (version_item version) → IsDraft (record d { stage = 1; site = record d.site { version = version } })
+IsDraft-version d version draft good =
+    let first = eqb-true d.stage 0 (stands d (version_item version) good) in
     record {
+      version = (in_range d (version_item version) good 0 (version_number version) 1 latest_version (omega arith) refl).1;
       types = TypesFit-none d.site.version version d.site.types (draft.order.no_types (omega arith)) draft.types;
       points = draft.points;
       obstacles = draft.obstacles;
@@ -126,6 +132,7 @@ IsDraft-mode : (d : Draft) (m : Option Mode) (mode : Mode) → IsDraft d → IsG
 IsDraft-mode d m mode draft good =
     let second = eqb-true d.stage 1 (stands d (AMode m) good) in
     record {
+      version = draft.version;
       types = draft.types;
       points = draft.points;
       obstacles = draft.obstacles;
@@ -163,6 +170,7 @@ IsDraft-type d t draft good fits =
     let few : length d.site.types < 8 = ⊎_elim (λ (l : length d.site.types < 8). l) (λ (l : 8 ≤ length d.site.types). absurd (good TooMany l)) (cases_lt (length d.site.types) 8) in
     let more = length_push d.site.types t in
     record {
+      version = draft.version;
       types = record { count = omega arith; each = All-push (IsCableType d.site.version) d.site.types t draft.types.each (IsCableType-good d t good fits) };
       points = draft.points;
       obstacles = draft.obstacles;
@@ -226,6 +234,7 @@ IsDraft-point : (d : Draft) (p : Point) → IsDraft d → IsGood d (point_item p
 IsDraft-point d p draft good =
     let at = settled_at d 3 (stands d (point_item p) good) in
     record {
+      version = draft.version;
       types = draft.types;
       points = PointsFit-push d p draft.points good;
       obstacles = ObstaclesFit-none d.site.points (d.site.points ++ p ∷ []) d.site.obstacles d.corners d.missing (draft.order.no_obstacles at.2) draft.obstacles;
@@ -246,6 +255,7 @@ IsDraft-obstacle d n draft good =
     let few : length d.site.obstacles < 64 = ⊎_elim (λ (l : length d.site.obstacles < 64). l) (λ (l : 64 ≤ length d.site.obstacles). absurd (good TooMany (inl l))) (cases_lt (length d.site.obstacles) 64) in
     let room : sum_by length d.site.obstacles + n ≤ 1024 = stable_le _ 1024 (λ over. good TooMany (inr (pos n, refl, omega (arith, ints)))) in
     record {
+      version = draft.version;
       types = draft.types;
       points = draft.points;
       obstacles = record {
@@ -321,6 +331,7 @@ StageFits-obstacles stage site other at types pairs fits = record {
 IsDraft-corner : (d : Draft) (corner : Place) (missing : ℕ) → d.missing ≡ missing → IsDraft d → IsGood d (corner_item corner) → IsDraft (with_corner d corner missing)
 IsDraft-corner d corner zero e draft good = draft
 IsDraft-corner d corner (suc zero) e draft good = record {
+  version = draft.version;
   types = draft.types;
   points = draft.points;
   obstacles = ObstaclesFit-complete d corner e draft good;
@@ -328,6 +339,7 @@ IsDraft-corner d corner (suc zero) e draft good = record {
   order = StageFits-obstacles d.stage d.site (record d.site { obstacles = d.site.obstacles ++ (d.corners ++ corner ∷ []) ∷ [] }) (eqb-true d.stage 4 (and_parts _ _ (stands d (corner_item corner) good)).0) refl refl draft.order;
 }
 IsDraft-corner d corner (suc (suc n)) e draft good = record {
+  version = draft.version;
   types = draft.types;
   points = draft.points;
   obstacles = ObstaclesFit-more d corner n e draft.obstacles;
@@ -369,6 +381,7 @@ IsDraft-pair d p first second draft good =
       rule = IsPairRule-good d (name_of d.site p.a) (name_of d.site p.b) p.rule good;
     } in
     record {
+      version = draft.version;
       types = draft.types;
       points = draft.points;
       obstacles = draft.obstacles;
@@ -390,6 +403,7 @@ IsDraft-end : (d : Draft) → IsDraft d → IsGood d TheEnd → IsDraft (record 
 IsDraft-end d draft good =
     let at = settled_at d 5 (stands d TheEnd good) in
     record {
+      version = draft.version;
       types = draft.types;
       points = draft.points;
       obstacles = draft.obstacles;
@@ -405,7 +419,8 @@ IsDraft-end d draft good =
 -- ---- the laws
 -- a good item keeps the facts of the site so far
 pub IsDraft-adds : (d e : Draft) (item : RawItem) → IsDraft d → FitsVersion d item → IsGood d item → Adds d item e → IsDraft e
-IsDraft-adds d e (AVersion v) draft fits good (version, said, becomes) = subst IsDraft (sym becomes) (IsDraft-version d v version draft good)
+IsDraft-adds d e (AVersion v) draft fits good (version, said, becomes) =
+    subst IsDraft (sym becomes) (IsDraft-version d version draft (subst (λ (i : RawItem). IsGood d i) (ap AVersion said) good))
 IsDraft-adds d e (AMode m) draft fits good (mode, said, becomes) = subst IsDraft (sym becomes) (IsDraft-mode d m mode draft good)
 IsDraft-adds d e (AType capacity price loss) draft fits good (t, c, p, l, becomes) =
     let same : AType capacity price loss ≡ type_item t = cc in
@@ -435,6 +450,7 @@ IsDraft-adds d e Overlong draft fits good adds = absurd adds
 -- a site with some type is valid
 pub IsValid-draft : (d : Draft) → IsDraft d → 1 ≤ length d.site.types → IsValid d.site
 IsValid-draft d draft some = record {
+  version = draft.version;
   some_types = some;
   types_count = draft.types.count;
   types = draft.types.each;

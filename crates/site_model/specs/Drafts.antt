@@ -8,7 +8,7 @@ use Rattle.cable_definitions.specs.declared.site.CableType.{CableType}
 use Rattle.cable_definitions.specs.declared.site.Pair.{Pair}
 use Rattle.cable_definitions.specs.Naming.{IsName}
 use Rattle.cable_definitions.specs.Plane.{SamePlace, IsOutside}
-use Rattle.cable_definitions.specs.Site.{Site, IsCableType, IsKind, IsObstacle, IsPair, joins}
+use Rattle.cable_definitions.specs.Site.{Site, version_number, latest_version, IsCableType, IsKind, IsObstacle, IsPair, joins}
 use Rattle.cable_definitions.specs.Items.{Draft, RawItem, AType}
 
 -- at most 8 types, each in range
@@ -47,6 +47,7 @@ pub record StageFits (stage : ℕ) (site : Site) : Type 0 where
 
 -- the site so far keeps every fact of a valid site but that it has some type
 pub record IsDraft (d : Draft) : Type 0 where
+  pub version : version_number d.site.version ≤ latest_version
   pub types : TypesFit d.site.version d.site.types
   pub points : PointsFit d.site.points
   pub obstacles : ObstaclesFit d.site.points d.site.obstacles d.corners d.missing

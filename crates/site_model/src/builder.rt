@@ -1,7 +1,9 @@
-ghost use Rattle.std.specs.Prelude.{◌≡◌, ◌↔◌, IsTrue, OnOk, OnErr, IfOk, MatchResult, ℤ, pos, Some, [], Any};
+ghost use Rattle.std.specs.Prelude.{◌≡◌, ◌↔◌, ◌≤◌, IsTrue, OnOk, OnErr, IfOk, MatchResult, MatchOption, pos, Some, [], ◌∷◌, All, Any};
 ghost use Rattle.cable_definitions.specs.declared.site.SiteCode.{SiteCode};
-ghost use Rattle.cable_definitions.specs.Items.{IsGood, IsFirstCode, Adds, Draft};
-ghost use Rattle.site_model.specs.Building.{type_item, point_item, pair_item, kind_item};
+ghost use Rattle.cable_definitions.specs.declared.site.Version.{Version};
+ghost use Rattle.cable_definitions.specs.Site.{version_number, latest_version, IsCableType, IsKind, IsPairRule};
+ghost use Rattle.cable_definitions.specs.Items.{IsGood, IsFirstCode, Adds, IsWithin, IsAt, within, coordinate, kind_fields, rule_fields, fields_of, raw_kind, raw_rule, AType};
+ghost use Rattle.site_model.specs.Building.{type_item, point_item, pair_item, kind_item, rule_item};
 
 use crate::Site;
 use crate::fault::BuildFault;
@@ -58,9 +60,13 @@ impl Model for SiteBuilder {
     ghost invariant = { λ b. IsDraft (record { stage = stage_number b.stage; site = record { version = b.version; mode = b.mode; types = b.types.items; points = b.points.items; obstacles = b.obstacles.items; pairs = b.pairs.items }; corners = b.corners.items; missing = b.missing }) };
 }
 
+/// The greatest coordinate, in metres.
+const COORDINATE_MOST: i128 = 1_000_000;
+
 impl SiteBuilder {
-    /// A site with no types, points, obstacles and pair rules so far.
+    /// A site with no types, points, obstacles and pair rules so far, of a version that is read.
     pub fn new(alloc: Global, version: Version, mode: Mode) -> Result<SiteBuilder, AllocError>
+        requires { version_number version ≤ latest_version }
         ensures { IfOk result (λ builder. builder ≡ record { stage = 2; site = record { version = version; mode = mode; types = []; points = []; obstacles = []; pairs = [] }; corners = []; missing = 0 }) }
     {
         Ok(SiteBuilder {
