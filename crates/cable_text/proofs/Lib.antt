@@ -1,2 +1,3 @@
 pub mod Writing
 pub mod Numerals
+pub mod Reading

@@ -1,7 +1,8 @@
 -- The spelling of whole numbers of any size.
-use Rattle.std.specs.Prelude.{◌≡◌, ◌≢◌, ℕ, ◌+◌, ◌<◌, ◌≤◌, ◌-◌, ◌*◌, ◌⊎◌, ℤ, pos, negsuc, ◌<ℤ◌, ◌≤ℤ◌, List, [], ◌∷◌, map, length, slice_index, if◌then◌else◌, ◌==◌, ◌&&◌, nat_le, Bool}
-use Rattle.std.specs.List.{AllPass}
+use Rattle.std.specs.Prelude.{◌≡◌, ◌≢◌, ℕ, ◌+◌, ◌<◌, ◌≤◌, ◌-◌, ◌*◌, ◌⊎◌, ℤ, pos, negsuc, ◌<ℤ◌, ◌≤ℤ◌, List, [], ◌∷◌, map, length, slice_index, EachIndex, if◌then◌else◌, ◌==◌, ◌^◌}
 use Rattle.std.specs.Int.Digits.{digits_of}
+use Rattle.cable_text.specs.declared.number.Spelled.{Spelled}
+use Rattle.cable_text.specs.declared.number.Spelled.TheVariants.{Value, Beyond, Nothing}
 
 -- the digits of a whole number as bytes, the highest first, and none for 0
 unfoldable pub digit_bytes : ℕ → List ℕ
@@ -25,16 +26,22 @@ abbrev pub IsOutside : ℤ → ℤ → ℤ → Type 0
 IsOutside least most z = (z <ℤ least) ⊎ (most <ℤ z)
 
 -- `0` to `9`
-abbrev pub is_digit : ℕ → Bool
-is_digit b = nat_le 48 b && nat_le b 57
+abbrev pub IsDigit : ℕ → Type 0
+IsDigit b = (48 ≤ b) × (b ≤ 57)
 
 -- a lone `0`, or digits that begin with another
 pub record IsNumeral (bytes : List ℕ) : Type 0 where
   pub not_empty : 0 < length bytes
-  pub digits : AllPass is_digit bytes
+  pub digits : EachIndex bytes (λ k. IsDigit (slice_index bytes k))
   pub no_zero_first : slice_index bytes 0 ≡ 48 → length bytes ≡ 1
 
 -- the number that digits write after those of n
 abbrev pub value_after : ℕ → List ℕ → ℕ
 value_after n [] = n
 value_after n (b ∷ bytes) = value_after (n * 10 + (b - 48)) bytes
+
+-- what a word spells: a number of 128 bits, one beyond these, or none
+abbrev pub IsSpelled : List ℕ → Spelled → Type 0
+IsSpelled word (Value z) = word ≡ spelling z
+IsSpelled word Beyond = (z : ℤ) × (word ≡ spelling z) × IsOutside (negsuc (2 ^ 127 - 1)) (pos (2 ^ 127 - 1)) z
+IsSpelled word Nothing = (z : ℤ) → word ≢ spelling z

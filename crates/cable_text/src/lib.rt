@@ -4,5 +4,5 @@
 mod number;
 mod stream;
 
-pub use number::{NumberFault, push_number};
+pub use number::{NumberFault, push_number, read_number};
 pub use stream::{Failed, Sink, Source};
