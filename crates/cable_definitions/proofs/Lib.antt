@@ -12,3 +12,11 @@ pub mod Lists
 pub mod Rules
 -- whole plans: a farm without turbines, a turbine without a substation, and one cable
 pub mod Plans
+-- sites, documents, reports, answers and notes, byte by byte
+pub mod Texts
+-- how commands are spelled, and what is built of them
+pub mod Words
+-- the first code of an item
+pub mod Faults
+-- the first refusal behind a site
+pub mod Refusals
