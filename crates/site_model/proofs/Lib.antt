@@ -1,1 +1,4 @@
 pub mod Drafts
+pub mod Passed
+pub mod Candidates
+pub mod Costs
