@@ -1,3 +1,4 @@
+pub mod Ranges
 pub mod Drafts
 pub mod Passed
 pub mod Candidates
