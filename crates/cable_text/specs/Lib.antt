@@ -1,3 +1,4 @@
 -- What stands in contracts of streams, lines and numbers.
 pub mod Stream
 pub mod Number
+pub mod Memory

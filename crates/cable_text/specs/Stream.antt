@@ -5,10 +5,6 @@ use Rattle.std.specs.Prelude.{◌≡◌, ◌≢◌, ℕ, ◌+◌, ◌-◌, ◌^�
 abbrev pub Rose : ℕ → ℕ → Type 0
 Rose old new = (old < new) ⊎ (new ≡ 2 ^ 64 - 1)
 
--- the count after one more fault
-abbrev pub one_more : ℕ → ℕ → Type 0
-one_more old new = ((old < 2 ^ 64 - 1) × (new ≡ old + 1)) ⊎ ((2 ^ 64 - 1 ≤ old) × (new ≡ old))
-
 -- a source had these bytes in front, and has the rest; one that tells nothing goes on so
 abbrev pub Gives : Option (List ℕ) → Option (List ℕ) → List ℕ → Type 0
 Gives None new front = new ≡ None

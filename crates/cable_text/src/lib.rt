@@ -1,8 +1,12 @@
 //! Lines, words and numbers in bytes, read from sources and written to sinks.
 #![tactic(auto)]
 
+mod memory;
 mod number;
+mod standard;
 mod stream;
 
+pub use memory::{MemorySink, MemorySource};
 pub use number::{NumberFault, push_number, read_number};
+pub use standard::{StdSink, StdSource};
 pub use stream::{Failed, Sink, Source};
