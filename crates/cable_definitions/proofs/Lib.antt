@@ -20,3 +20,5 @@ pub mod Words
 pub mod Faults
 -- the first refusal behind a site
 pub mod Refusals
+-- a whole document that is accepted
+pub mod Accepted

@@ -88,7 +88,7 @@ one_place : (i j : ℕ) (c d : Cable) → IsCable (cable 1 0 0 ∷ []) i c → I
 one_place zero j c d e f h = absurd (omega (arith, h))
 one_place (suc i) j c d e f h = absurd (none_listed i c e)
 
-arc_is_candidate : IsCandidate two_points 1 0
+pub arc_is_candidate : IsCandidate two_points 1 0
 arc_is_candidate = record {
   from = _;
   to = _;
