@@ -11,7 +11,7 @@ use Rattle.cable_definitions.specs.declared.claim.Claim.TheVariants.{Optimal}
 use Rattle.cable_definitions.specs.declared.row.RowKind.{RowKind}
 use Rattle.cable_definitions.specs.declared.row.RowKind.TheVariants.{Out}
 use Rattle.cable_definitions.specs.declared.row.Mark.{Mark}
-use Rattle.cable_definitions.specs.declared.row.Mark.TheVariants.{Free, Used}
+use Rattle.cable_definitions.specs.declared.row.Mark.TheVariants.{Free}
 use Rattle.cable_definitions.specs.declared.row.Act.TheVariants.{Stop}
 use Rattle.cable_definitions.specs.declared.site.Point.{Point}
 use Rattle.cable_definitions.specs.Naming.{IsName, is_name_byte}

@@ -1,12 +1,11 @@
 -- What cables stand in a list.
-use Rattle.std.proofs.Common.{◌≡◌, ◌≢◌, ℕ, zero, suc, ◌+◌, ◌<◌, ◌≤◌, ◌⊎◌, inl, inr, List, [], ◌∷◌, Bool, true, false, eqb, refl, ap, sym, ◌∙◌, arith, subst}
-use Rattle.std.specs.Prelude.{Some, None, unwrap_or, IsSome, sum_by, slice_get}
+use Rattle.std.proofs.Common.{◌≡◌, ◌≢◌, ℕ, zero, suc, ◌≤◌, ◌⊎◌, inl, inr, List, [], ◌∷◌, true, false, eqb, refl, ap, sym, arith}
+use Rattle.std.specs.Prelude.{unwrap_or, sum_by}
 use Rattle.std.proofs.lemmas.Option.{none-some, slice_get_within, get_or_from_slice_get}
 use Rattle.std.proofs.lemmas.Bool.{false≢true}
 use Rattle.std.proofs.lemmas.Bool.Decides.{eqb_tells}
 use Rattle.std.proofs.lemmas.List.Sums.{get_or-le-sum_by}
 use Rattle.cable_definitions.specs.declared.cable.Cable.{Cable}
-use Rattle.cable_definitions.specs.Walk.{cable_out}
 use Rattle.cable_definitions.specs.Layout.{IsCable, Starts}
 
 -- no cable stands in an empty list

@@ -1,11 +1,10 @@
 -- Whole plans: a farm without turbines, a turbine without a substation, and one cable.
-use Rattle.std.proofs.Common.{◌≡◌, ◌≢◌, ℕ, zero, suc, ◌+◌, ◌*◌, ◌<◌, ◌≤◌, ◌⊎◌, inl, inr, List, [], ◌∷◌, ◌++◌, refl, ap, sym, arith, subst, ◌∙◌}
-use Rattle.std.specs.Prelude.{codes, Some, None, unwrap_or, IsTrue, IsSome, AllPairs, All}
+use Rattle.std.proofs.Common.{◌≡◌, ◌≢◌, ℕ, zero, suc, ◌<◌, ◌≤◌, [], ◌∷◌, refl, ap, sym, arith, subst, ◌∙◌}
+use Rattle.std.specs.Prelude.{codes, unwrap_or}
 use Rattle.std.specs.Fmt.{digits}
 use Rattle.std.proofs.lemmas.Bool.{false≢true}
 use Rattle.std.proofs.lemmas.Option.{none-some}
 use Rattle.cable_definitions.specs.declared.cable.Cable.{Cable}
-use Rattle.cable_definitions.specs.declared.claim.Claim.{Claim}
 use Rattle.cable_definitions.specs.declared.claim.Claim.TheVariants.{Optimal, Infeasible}
 use Rattle.cable_definitions.specs.declared.site.Kind.{Kind}
 use Rattle.cable_definitions.specs.declared.site.Kind.TheVariants.{Turbine, Substation, Bend}
@@ -13,10 +12,9 @@ use Rattle.cable_definitions.specs.declared.site.Mode.{Mode}
 use Rattle.cable_definitions.specs.declared.site.Mode.TheVariants.{Tree, Strings}
 use Rattle.cable_definitions.specs.declared.site.Point.{Point}
 use Rattle.cable_definitions.specs.Plane.{length_of, root_bits}
-use Rattle.cable_definitions.specs.Site.{Site}
-use Rattle.cable_definitions.specs.Arcs.{IsPoint, IsCandidate, kind_of, is_turbine, is_substation, is_bend, capacity_of, cost_of}
-use Rattle.cable_definitions.specs.Walk.{cable_out, load, most_steps, ends_in, starts_in}
-use Rattle.cable_definitions.specs.Layout.{IsCable, Starts, KeepsRange, KeepsJoined, KeepsBend, KeepsEnd, KeepsCapacity, KeepsFeeders, KeepsPower, KeepsClear, IsLegal, cost, Least, HasNone}
+use Rattle.cable_definitions.specs.Arcs.{IsPoint, IsCandidate, is_substation, is_bend, capacity_of, cost_of}
+use Rattle.cable_definitions.specs.Walk.{load, most_steps}
+use Rattle.cable_definitions.specs.Layout.{IsCable, KeepsJoined, KeepsEnd, KeepsCapacity, KeepsFeeders, KeepsPower, IsLegal, Least, HasNone}
 use Rattle.cable_definitions.specs.Plan.{IsPlanned}
 use Rattle.cable_definitions.proofs.Sites.{cable, no_turbine, no_substation, two_points}
 use Rattle.cable_definitions.proofs.Lists.{none_listed, is_the_one, listed_out, one_of_sum}

@@ -1,5 +1,5 @@
 -- Rules of a legal layout that are broken, the first broken rule, and rules of rings and of tighter sites.
-use Rattle.std.proofs.Common.{◌≡◌, ℕ, zero, suc, ◌<◌, ◌⊎◌, inl, inr, [], ◌∷◌, refl, arith, ap}
+use Rattle.std.proofs.Common.{ℕ, zero, suc, ◌<◌, inl, inr, [], ◌∷◌, refl, arith}
 use Rattle.std.proofs.lemmas.Bool.{false≢true}
 use Rattle.cable_definitions.specs.declared.cable.Rule.{Rule}
 use Rattle.cable_definitions.specs.declared.cable.Rule.TheVariants.{Range, Candidate, Start, Unjoined, Bend, Lost, Overload, Feeders, Power, Branch, Clash as ClashRule}

@@ -1,5 +1,5 @@
 -- Sites, documents, reports, answers and notes, byte by byte.
-use Rattle.std.proofs.Common.{◌≡◌, List, [], ◌∷◌, ◌++◌, pos, neg_ℤ, refl}
+use Rattle.std.proofs.Common.{◌≡◌, List, [], ◌∷◌, pos, neg_ℤ, refl}
 use Rattle.std.specs.Prelude.{codes}
 use Rattle.std.specs.Fmt.{digits}
 use Rattle.cable_definitions.specs.declared.row.RowKind.TheVariants.{Out, Cut}
@@ -13,7 +13,7 @@ use Rattle.cable_definitions.specs.declared.tight.TightRule.TheVariants.{Capacit
 use Rattle.cable_definitions.specs.Plane.{length_of, root_bits}
 use Rattle.cable_definitions.specs.Walk.{most_steps}
 use Rattle.cable_definitions.specs.Tree.{Item, RowItem, WorkItem}
-use Rattle.cable_definitions.specs.Text.{number, site_lines, document_text, item_lines, cable_line, claim_line, act_line}
+use Rattle.cable_definitions.specs.Text.{number, site_lines, document_text, claim_line, act_line}
 use Rattle.cable_definitions.specs.Report.{report_text}
 use Rattle.cable_definitions.specs.Answers.{yes_line, broken_words, broken_line, closed_lines, carried_line, not_tighter_note, site_note, document_note, usage_note}
 use Rattle.cable_definitions.proofs.Sites.{cable, two_points, crossing, around, fork, branched, stringed}

@@ -1,5 +1,5 @@
 -- Segments that touch, pass and clash, and points beside, on and in a polygon.
-use Rattle.std.proofs.Common.{◌≡◌, ℕ, zero, suc, ◌⊎◌, inl, inr, [], ◌∷◌, refl, arith}
+use Rattle.std.proofs.Common.{◌≡◌, ◌⊎◌, inl, inr, refl, arith}
 use Rattle.std.specs.Prelude.{count_by, pos, neg_ℤ}
 use Rattle.std.proofs.lemmas.Int.{ints}
 use Rattle.cable_definitions.specs.Plane.{orient, counts_for, edges, Meet, IsOn, IsEnd, Clash, IsOutside}

@@ -1,5 +1,5 @@
 -- How commands are spelled, and what is built of them.
-use Rattle.std.proofs.Common.{◌≡◌, ℕ, ◌≤◌, List, [], ◌∷◌, inl, inr, refl, arith, ap}
+use Rattle.std.proofs.Common.{ℕ, List, [], ◌∷◌, inl, inr, refl, arith, ap}
 use Rattle.std.specs.Prelude.{codes, length}
 use Rattle.std.specs.Fmt.{digits}
 use Rattle.cable_definitions.specs.declared.command.Command.TheVariants.{Plan, Check, Drill}
