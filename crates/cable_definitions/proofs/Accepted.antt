@@ -23,7 +23,7 @@ use Rattle.cable_definitions.specs.Row.{Row, is_equation, Question, SomeMember, 
 use Rattle.cable_definitions.specs.Choice.{Choice, NoCable, Carries, IsChoice, AreLawful, reduced_cost, AtMost, IsValue}
 use Rattle.cable_definitions.specs.Tree.{Item, RowItem, WorkItem, Kept, root, worked, Stopped, IsBound, IsAccepted, is_open_leaf}
 use Rattle.cable_definitions.specs.Document.{Yes}
-use Rattle.cable_definitions.proofs.Sites.{arc, cable, two_points}
+use Rattle.cable_definitions.proofs.Sites.{arc, cable, two_points, only_arc, out_row}
 use Rattle.cable_definitions.proofs.Plans.{arc_is_candidate, one_cable_is_legal}
 
 -- ---- the site is valid
@@ -86,9 +86,6 @@ two_points_are_valid = record {
 }
 
 -- ---- it has one candidate arc
-abbrev only_arc : List Arc
-only_arc = arc 1 0 500 ∷ []
-
 -- an arc starts in the turbine
 starts_in_turbine : (p : ℕ) (from : Point) → IsPoint two_points p from → ¬ (IsTrue (is_substation from.kind)) → p ≡ 1
 starts_in_turbine zero from e f = absurd (f (sym (ap (λ o. is_substation (unwrap_or o from).kind) e)))
@@ -124,9 +121,6 @@ pub it_is_the_arc : AreArcs two_points only_arc
 it_is_the_arc = record { in_order = λ i j d h l. absurd (omega (arith, h, l)); candidates = candidates; all_candidates = all_listed; lengths = lengths; charges = charges }
 
 -- ---- the row is well formed
-abbrev out_row : Row
-out_row = record { kind = Out; members = 1 ∷ [] }
-
 -- what stands in its list of members
 the_member : (i m : ℕ) → slice_get (1 ∷ []) i ≡ Some m → m ≡ 1
 the_member zero m e = sym (ap (λ o. unwrap_or o 1) e)
@@ -140,7 +134,7 @@ is_out : RowKind → Bool
 is_out Out = true
 is_out kind = false
 
-well_formed : (question : Question) (i j : ℕ) → Meets two_points only_arc Out (1 ∷ []) question i j
+pub well_formed : (question : Question) (i j : ℕ) → Meets two_points only_arc Out (1 ∷ []) question i j
 unfolding is_out
 well_formed SomeMember i j = λ e. absurd (omega (arith, ap length e))
 well_formed RightCount i j = (λ t. refl, omega arith)
@@ -204,7 +198,7 @@ bound = record { parent = omega arith; value_below = omega (arith, ints); least 
 abbrev items : List Item
 items = RowItem out_row ∷ WorkItem 1 weights Stop ∷ []
 
-abbrev after_row : Kept
+abbrev pub after_row : Kept
 after_row = record { rows = out_row ∷ []; nodes = root ∷ []; works = 0 }
 
 abbrev after_work : Kept

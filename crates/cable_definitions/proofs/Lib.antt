@@ -22,3 +22,7 @@ pub mod Faults
 pub mod Refusals
 -- a whole document that is accepted
 pub mod Accepted
+-- each reason for which a node is dead
+pub mod Dead
+-- a whole document whose root is split
+pub mod Split

@@ -15,7 +15,9 @@ use Rattle.cable_definitions.specs.declared.site.Point.{Point}
 use Rattle.cable_definitions.specs.declared.site.CableType.{CableType}
 use Rattle.cable_definitions.specs.declared.site.PairRule.TheVariants.{Charge, Closed}
 use Rattle.cable_definitions.specs.declared.site.Pair.{Pair}
+use Rattle.cable_definitions.specs.declared.row.RowKind.TheVariants.{Out}
 use Rattle.cable_definitions.specs.Site.{Site}
+use Rattle.cable_definitions.specs.Row.{Row}
 
 -- ---- places
 -- a place, with the four facts that it is in range
@@ -118,6 +120,13 @@ no_substation = site_of One Tree (type_of 400 1 0 ∷ []) (point (codes "A") ori
 -- a substation and one turbine
 abbrev pub two_points : Site
 two_points = site_of One Tree (type_of 400 100 0 ∷ []) (point (codes "S") origin wide ∷ point (codes "A") near (Turbine 100) ∷ [])
+
+-- its one candidate arc, and the row that a cable leaves its turbine
+abbrev pub only_arc : List Arc
+only_arc = record { from = 1; to = 0; length = 500; charge = 0 } ∷ []
+
+abbrev pub out_row : Row
+out_row = record { kind = Out; members = 1 ∷ [] }
 
 -- two turbines behind each other
 abbrev pub in_a_row : List CableType → Site
