@@ -2,3 +2,7 @@
 pub mod Alike
 -- lists of cables with the same arcs in one order, one more cable, and other types
 pub mod Arcs
+-- walks step by step
+pub mod Walking
+-- visits and loads point by point
+pub mod Flow

@@ -93,6 +93,13 @@ sum_by-keys key f n (x ∷ xs) d h =
     let all = sum_by-same (λ k. value_at f (first_at key (x ∷ xs) k)) (λ k. cond (eqb (key x) k) (f x) 0 + value_at f (first_at key xs k)) keys (value_at-cons key f x xs d) in
     omega (arith, sum_by-cons f x xs, tail, one, all, sum_by-plus (λ k. cond (eqb (key x) k) (f x) 0) (λ k. value_at f (first_at key xs k)) keys)
 
+-- where keys differ, a sum over the elements of a key is the value of the first
+pub sum_by-one_key : {X : Type 0} → (key f : X → ℕ) (xs : List X) (k : ℕ) → DifferentKeys key xs → sum_by (λ x. cond (eqb (key x) k) (f x) 0) xs ≡ value_at f (first_at key xs k)
+sum_by-one_key key f [] k d = refl
+sum_by-one_key key f (x ∷ xs) k d =
+    let rest = sum_by-one_key key f xs k (DifferentKeys-rest key x xs d) in
+    omega (arith, sum_by-cons (λ y. cond (eqb (key y) k) (f y) 0) x xs, rest, value_at-cons key f x xs d k)
+
 -- some number is above all keys
 pub some_bound : {X : Type 0} → (key : X → ℕ) (xs : List X) → KeysBelow key (suc (sum_by key xs)) xs
 some_bound key xs i x e =

@@ -1,6 +1,6 @@
 -- Sums of natural numbers over lists.
-use Rattle.std.proofs.Common.{◌≡◌, ℕ, zero, suc, ◌+◌, ◌*◌, ◌<◌, ◌≤◌, false, cond, eqb, List, [], ◌∷◌, sum_by, ◌≢◌, inl, inr, refl, ap, arith, ne_eqb}
-use Rattle.std.specs.List.{range_with_len}
+use Rattle.std.proofs.Common.{◌≡◌, ℕ, zero, suc, ◌+◌, ◌*◌, ◌<◌, ◌≤◌, Bool, true, false, cond, eqb, List, [], ◌∷◌, sum_by, count_by, ◌≢◌, inl, inr, refl, ap, arith, ne_eqb}
+use Rattle.std.specs.List.{range_with_len, list_any}
 use Rattle.std.proofs.lemmas.List.Sums.{sum_by-cons}
 use Rattle.std.proofs.lemmas.Bool.Decides.{eqb_tells}
 
@@ -55,3 +55,50 @@ sum_by-one_of k v a (suc n) h l =
       | inl t ↦ let f : cond (eqb k a) v 0 ≡ v = rw t.0 refl in let g : k ≡ a = t.1 in omega (arith, s, f, sum_by-none_of k v (a + 1) n (omega arith))
       | inr t ↦ let f : cond (eqb k a) v 0 ≡ 0 = rw t.0 refl in let g : k ≢ a = t.1 in omega (arith, s, f, sum_by-one_of k v (a + 1) n (omega arith) (omega arith))
     ]
+
+-- a test counts one at most
+pub one_if-most : (b : Bool) → cond b 1 0 ≤ 1
+one_if-most true = omega arith
+one_if-most false = omega arith
+
+-- no element passes a test that counts none
+pub count_by-none : {X : Type 0} → (test : X → Bool) (xs : List X) → list_any test xs ≡ false → count_by test xs ≡ 0
+count_by-none test [] e = refl
+count_by-none {X} test (x ∷ xs) e = by_cases (test x) refl (count_by-none test xs)
+  where
+    by_cases : (b : Bool) → test x ≡ b → (list_any test xs ≡ false → count_by test xs ≡ 0) → count_by test (x ∷ xs) ≡ 0
+    by_cases true h f = absurd (let g : true ≡ false = rw h at e in cc)
+    by_cases false h f =
+        let c : cond (test x) (let n : ℕ = 1 in n) 0 ≡ 0 = rw h refl in
+        omega (arith, sum_by-cons (λ y. cond (test y) 1 0) x xs, c, f (rw h at e))
+
+-- some element passes a test that counts one or more
+pub count_by-some : {X : Type 0} → (test : X → Bool) (xs : List X) → list_any test xs ≡ true → 1 ≤ count_by test xs
+count_by-some test [] e = absurd (cc)
+count_by-some {X} test (x ∷ xs) e = by_cases (test x) refl (count_by-some test xs)
+  where
+    by_cases : (b : Bool) → test x ≡ b → (list_any test xs ≡ true → 1 ≤ count_by test xs) → 1 ≤ count_by test (x ∷ xs)
+    by_cases true h f =
+        let c : cond (test x) (let n : ℕ = 1 in n) 0 ≡ 1 = rw h refl in
+        omega (arith, sum_by-cons (λ y. cond (test y) 1 0) x xs, c)
+    by_cases false h f =
+        let c : cond (test x) (let n : ℕ = 1 in n) 0 ≡ 0 = rw h refl in
+        omega (arith, sum_by-cons (λ y. cond (test y) 1 0) x xs, c, f (rw h at e))
+
+-- where at most one element passes, the count is one if one passes
+pub count_by-once : {X : Type 0} → (test : X → Bool) (xs : List X) → count_by test xs ≤ 1 → cond (list_any test xs) 1 0 ≡ count_by test xs
+count_by-once test xs h = by_cases (list_any test xs) refl
+  where
+    by_cases : (b : Bool) → list_any test xs ≡ b → cond b 1 0 ≡ count_by test xs
+    by_cases true e = omega (arith, count_by-some test xs e)
+    by_cases false e = omega (arith, count_by-none test xs e)
+
+-- a counted value
+pub cond-times : (b : Bool) (n : ℕ) → cond b n 0 ≡ n * cond b 1 0
+cond-times true n = omega arith
+cond-times false n = omega arith
+
+-- a test that doesn't depend on the element
+pub sum_by-cond : {X : Type 0} → (b : Bool) (f : X → ℕ) (xs : List X) → sum_by (λ x. cond b (f x) 0) xs ≡ cond b (sum_by f xs) 0
+sum_by-cond true f xs = refl
+sum_by-cond false f xs = sum_by-zeros xs
