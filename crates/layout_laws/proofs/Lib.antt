@@ -6,3 +6,5 @@ pub mod Arcs
 pub mod Walking
 -- visits and loads point by point
 pub mod Flow
+-- walks under the rules of legal layouts
+pub mod Ending

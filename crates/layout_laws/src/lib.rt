@@ -1,4 +1,6 @@
 //! The laws of walks, loads and layouts.
 #![tactic(auto)]
 
+pub mod loads;
 pub mod order;
+pub mod walks;

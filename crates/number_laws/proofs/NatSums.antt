@@ -1,7 +1,8 @@
 -- Sums of natural numbers over lists.
-use Rattle.std.proofs.Common.{◌≡◌, ℕ, zero, suc, ◌+◌, ◌*◌, ◌<◌, ◌≤◌, Bool, true, false, cond, eqb, List, [], ◌∷◌, sum_by, count_by, ◌≢◌, inl, inr, refl, ap, arith, ne_eqb}
+use Rattle.std.proofs.Common.{◌≡◌, ℕ, zero, suc, ◌+◌, ◌*◌, ◌<◌, ◌≤◌, Bool, true, false, cond, eqb, List, [], ◌∷◌, sum_by, Some, slice_get, count_by, ◌≢◌, inl, inr, refl, ap, arith, ne_eqb}
 use Rattle.std.specs.List.{range_with_len, list_any}
-use Rattle.std.proofs.lemmas.List.Sums.{sum_by-cons}
+use Rattle.std.proofs.lemmas.List.Sums.{sum_by-cons, get_or-le-sum_by}
+use Rattle.std.proofs.lemmas.Option.{slice_get_within, get_or_from_slice_get}
 use Rattle.std.proofs.lemmas.Bool.Decides.{eqb_tells}
 
 -- two functions that agree everywhere
@@ -102,3 +103,24 @@ cond-times false n = omega arith
 pub sum_by-cond : {X : Type 0} → (b : Bool) (f : X → ℕ) (xs : List X) → sum_by (λ x. cond b (f x) 0) xs ≡ cond b (sum_by f xs) 0
 sum_by-cond true f xs = refl
 sum_by-cond false f xs = sum_by-zeros xs
+
+-- where a test counts one or more, some element passes it
+pub count_by-place : {X : Type 0} → (test : X → Bool) (xs : List X) → 1 ≤ count_by test xs → (i : ℕ) × (x : X) × (slice_get xs i ≡ Some x) × (test x ≡ true)
+count_by-place test [] h = absurd (omega arith)
+count_by-place {X} test (x ∷ xs) h = by_cases (test x) refl (count_by-place test xs)
+  where
+    by_cases : (b : Bool) → test x ≡ b → (1 ≤ count_by test xs → (i : ℕ) × (y : X) × (slice_get xs i ≡ Some y) × (test y ≡ true))
+        → (i : ℕ) × (y : X) × (slice_get (x ∷ xs) i ≡ Some y) × (test y ≡ true)
+    by_cases true e f = (0, x, refl, e)
+    by_cases false e f =
+        let c : cond (test x) (let n : ℕ = 1 in n) 0 ≡ 0 = rw e refl in
+        let r = f (omega (arith, sum_by-cons (λ y. cond (test y) 1 0) x xs, c)) in
+        (suc r.0, r.1, r.2, r.3)
+
+-- an element that passes a test is counted
+pub count_by-at : {X : Type 0} → (test : X → Bool) (xs : List X) (i : ℕ) (x : X) → slice_get xs i ≡ Some x → test x ≡ true → 1 ≤ count_by test xs
+count_by-at test xs i x e t =
+    let l = get_or-le-sum_by (λ y. cond (test y) 1 0) xs i x (slice_get_within xs i x e) in
+    let g = ap (λ y. cond (test y) (let n : ℕ = 1 in n) 0) (get_or_from_slice_get xs i x x e) in
+    let c : cond (test x) (let n : ℕ = 1 in n) 0 ≡ 1 = rw t refl in
+    omega (arith, l, g, c)

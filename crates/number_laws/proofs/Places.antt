@@ -1,5 +1,5 @@
 -- Sums over the numbered elements of a list.
-use Rattle.std.proofs.Common.{◌≡◌, ◌≢◌, ℕ, zero, suc, ◌+◌, ◌<◌, ◌≤◌, false, true, cond, eqb, List, [], ◌∷◌, sum_by, slice_get, refl, arith, ne_eqb, eq-eqb}
+use Rattle.std.proofs.Common.{◌≡◌, ℕ, zero, suc, ◌+◌, ◌<◌, false, true, cond, eqb, List, [], ◌∷◌, sum_by, slice_get, refl, arith, ne_eqb, eq-eqb}
 use Rattle.std.specs.List.{enumerate_from}
 use Rattle.std.proofs.lemmas.List.Sums.{sum_by-cons}
 use Rattle.number_laws.proofs.Keys.{value_at}
