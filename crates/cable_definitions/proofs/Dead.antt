@@ -1,8 +1,7 @@
 -- Each reason for which a node is dead, once.
-use Rattle.std.proofs.Common.{◌≡◌, zero, suc, inl, inr, List, [], ◌∷◌, Bool, true, false, pos, refl, ap, sym, arith}
+use Rattle.std.proofs.Common.{inl, [], ◌∷◌, Bool, true, false, pos, refl, ap, sym, arith}
 use Rattle.std.proofs.lemmas.Bool.{false≢true}
 use Rattle.std.proofs.lemmas.Int.{ints}
-use Rattle.cable_definitions.specs.declared.cable.Arc.{Arc}
 use Rattle.cable_definitions.specs.declared.row.Mark.{Mark}
 use Rattle.cable_definitions.specs.declared.row.Mark.TheVariants.{Free, Used, Unused}
 use Rattle.cable_definitions.specs.declared.row.Why.TheVariants.{Row as RowWhy, Pair, Load, Loop, Power, Ceiling}
@@ -25,23 +24,34 @@ nothing_counts (Carries grade load) h = absurd (h.0 refl)
 
 -- no arc is left for the turbine
 pub dead_row : IsDead two_points only_arc (out_row ∷ []) (Unused ∷ []) 0 (RowWhy 0)
-dead_row = (out_row, refl, inl (pos 0, record {
-  extremes = pos 0 ∷ [];
-  are_extremes = (record { choice = NoCable; is_choice = λ e. false≢true (sym (ap may_leave e)); reached = refl; none_beyond = nothing_counts }, tt);
-  sum = refl;
-}, omega (arith, ints)))
+dead_row = (
+  out_row,
+  refl,
+  inl (
+    pos 0,
+    record {
+      extremes = pos 0 ∷ [];
+      are_extremes = (record { choice = NoCable; is_choice = λ e. false≢true (sym (ap may_leave e)); reached = refl; none_beyond = nothing_counts }, tt);
+      sum = refl;
+    },
+    omega (arith, ints),
+  ),
+)
 
 -- two cables out of one turbine
 pub dead_pair : IsDead fork fork_arcs [] (Used ∷ Used ∷ Free ∷ Free ∷ Free ∷ Free ∷ Free ∷ Free ∷ Free ∷ []) 0 (Pair 0 1)
-dead_pair = (λ e. absurd (omega (arith, e)), record {
-  first = _;
-  second = _;
-  first_is = refl;
-  second_is = refl;
-  first_used = refl;
-  second_used = refl;
-  incompatible = record { different = λ h. absurd (omega (arith, h.1)); apart = inl (inl refl) };
-})
+dead_pair = (
+  λ e. absurd (omega (arith, e)),
+  record {
+    first = _;
+    second = _;
+    first_is = refl;
+    second_is = refl;
+    first_used = refl;
+    second_used = refl;
+    incompatible = record { different = λ h. absurd (omega (arith, h.1)); apart = inl (inl refl) };
+  },
+)
 
 -- two turbines behind a cable that bears one
 pub dead_load : IsDead (in_a_row (type_of 100 1 0 ∷ [])) (arc 1 0 1000 ∷ arc 2 1 1000 ∷ []) [] (Used ∷ Used ∷ []) 0 (Load 1)

@@ -22,6 +22,8 @@ pub mod Faults
 pub mod Refusals
 -- a whole document that is accepted
 pub mod Accepted
+-- grown parts, blocked turbines, settled and straight layouts
+pub mod Parts
 -- each reason for which a node is dead
 pub mod Dead
 -- a whole document whose root is split

@@ -1,6 +1,6 @@
 -- A whole document is accepted: the root is split, one part is full and the other is dead.
 use Rattle.std.proofs.Common.{◌≡◌, ◌≢◌, ℕ, zero, suc, ◌<◌, ◌≤◌, ◌⊎◌, inr, List, [], ◌∷◌, pos, refl, ap, sym, ◌∙◌, arith}
-use Rattle.std.specs.Prelude.{codes, All, Bool, true, false, IsTrue}
+use Rattle.std.specs.Prelude.{codes, All, true, IsTrue}
 use Rattle.std.specs.Fmt.{digits}
 use Rattle.std.proofs.lemmas.Bool.{false≢true}
 use Rattle.std.proofs.lemmas.Int.{ints}
