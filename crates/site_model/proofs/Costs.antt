@@ -53,11 +53,12 @@ pub type_at : (s : Site) (grade : ℕ) (t : CableType) → IsValid s → slice_g
 type_at s grade t v e = subst (IsCableType s.version) (get_or_from_slice_get s.types grade t t e) (v.types grade t (slice_get_within s.types grade t e))
 
 -- the cost of a cable between two points of a type, where there are such
-abbrev cost_read : Option Point → Option Point → Option CableType → ℕ → ℕ → ℕ
+abbrev pub cost_read : Option Point → Option Point → Option CableType → ℕ → ℕ → ℕ
 cost_read a b None load charge = 0
 cost_read a b (Some t) load charge = cost_by (length_between a b) t load charge
 
-cost_from_read : (s : Site) (p q load : ℕ) (o : Option CableType) → cost_from s p q o load ≡ cost_read (slice_get s.points p) (slice_get s.points q) o load (charge_of s p q)
+-- it is the cost that is defined
+pub cost_from_read : (s : Site) (p q load : ℕ) (o : Option CableType) → cost_from s p q o load ≡ cost_read (slice_get s.points p) (slice_get s.points q) o load (charge_of s p q)
 cost_from_read s p q load None = refl
 cost_from_read s p q load (Some t) = refl
 

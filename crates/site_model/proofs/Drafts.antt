@@ -1,16 +1,14 @@
 -- Good items keep the facts of a site so far, and a site that has ended is valid.
-use Rattle.std.proofs.Common.{◌≡◌, ◌≢◌, ℕ, zero, suc, ◌+◌, ◌≤◌, ◌<◌, ◌⊎◌, inl, inr, ⊎_elim, ℤ, pos, ◌≤ℤ◌, ◌<ℤ◌, ◌+ℤ◌, List, [], ◌∷◌, ◌++◌, length, Bool, true, false, ◌&&◌, ◌||◌, ◌==◌, Option, Some, None, IsTrue, refl, sym, ap, ◌∙◌, subst, arith, get_or, sum_by}
-use Rattle.std.specs.Prelude.{All, AllPairs, Any, nat_le, slice_get}
+use Rattle.std.proofs.Common.{◌≡◌, ◌≢◌, ℕ, zero, suc, ◌+◌, ◌≤◌, ◌<◌, ◌⊎◌, inl, inr, ⊎_elim, ℤ, pos, List, [], ◌∷◌, ◌++◌, length, Bool, true, ◌&&◌, ◌==◌, Option, Some, IsTrue, refl, sym, ap, ◌∙◌, subst, arith, get_or, sum_by}
+use Rattle.std.specs.Prelude.{All, Any, nat_le}
 use Rattle.std.proofs.lemmas.Bool.{cases_lt, cases_eq, and_parts, or_cases, leb-true, eqb-true, true_from_ne_false}
-use Rattle.std.proofs.lemmas.Bool.Decides.{nat_tests}
 use Rattle.std.proofs.lemmas.List.{get_or_default, length_push}
-use Rattle.std.proofs.lemmas.List.Elements.{All-nil, All-push, All-weaker}
+use Rattle.std.proofs.lemmas.List.Elements.{All-nil, All-push}
 use Rattle.std.proofs.lemmas.List.Quantifiers.{all_pairs_push}
 use Rattle.std.proofs.lemmas.List.Sums.{sum_by_push}
 use Rattle.std.proofs.lemmas.Int.{ints}
 use Rattle.cable_definitions.specs.declared.place.Place.{Place}
 use Rattle.cable_definitions.specs.declared.site.Version.{Version}
-use Rattle.cable_definitions.specs.declared.site.Version.TheVariants.{One, Two}
 use Rattle.cable_definitions.specs.declared.site.Mode.{Mode}
 use Rattle.cable_definitions.specs.declared.site.Point.{Point}
 use Rattle.cable_definitions.specs.declared.site.Kind.{Kind}
@@ -19,12 +17,12 @@ use Rattle.cable_definitions.specs.declared.site.CableType.{CableType}
 use Rattle.cable_definitions.specs.declared.site.PairRule.{PairRule}
 use Rattle.cable_definitions.specs.declared.site.PairRule.TheVariants.{Charge, Closed}
 use Rattle.cable_definitions.specs.declared.site.Pair.{Pair}
-use Rattle.cable_definitions.specs.declared.site.SiteCode.TheVariants.{TooLong, Form, Shape, Range, BadName, SameName, SamePlace as Placed, UnknownName, SamePair, InObstacle, TooMany}
+use Rattle.cable_definitions.specs.declared.site.SiteCode.TheVariants.{Form, Range, BadName, SameName, SamePlace as Placed, SamePair, InObstacle, TooMany}
 use Rattle.cable_definitions.specs.Naming.{IsName, is_name_byte}
-use Rattle.cable_definitions.specs.Plane.{SamePlace, IsOutside, IsOn, edges, counts_for}
+use Rattle.cable_definitions.specs.Plane.{SamePlace, IsOutside}
 use Rattle.cable_definitions.specs.Site.{Site, version_number, latest_version, IsCableType, IsKind, IsObstacle, IsPairRule, IsPair, joins, IsValid}
 use Rattle.cable_definitions.specs.Text.{name_of}
-use Rattle.cable_definitions.specs.Items.{RawKind, RawItem, AVersion, AMode, AType, APoint, AnObstacle, ACorner, APair, TheEnd, Misshapen, Stray, Unended, Missing, Overlong, Draft, empty_draft, is_settled, may_stand, Field, within, fields_of, IsWithin, IsAt, raw_kind, raw_rule, IsOnNames, IsGood, Breaks, Adds, Builds, with_corner}
+use Rattle.cable_definitions.specs.Items.{RawItem, AVersion, AMode, AType, APoint, AnObstacle, ACorner, APair, TheEnd, Misshapen, Stray, Unended, Missing, Overlong, Draft, empty_draft, is_settled, may_stand, Field, within, fields_of, IsWithin, IsAt, raw_kind, raw_rule, IsOnNames, IsGood, Adds, with_corner}
 use Rattle.site_model.specs.Drafts.{TypesFit, PointsFit, ObstaclesFit, PairsFit, StageFits, IsDraft, FitsVersion}
 
 -- ---- facts that hold where they can't fail
@@ -64,9 +62,10 @@ stands d item good = stable_test (may_stand d item) (good Form)
 in_range : (d : Draft) (item : RawItem) → IsGood d item → (k n least most : ℕ) → k < length (fields_of item) → get_or (fields_of item) k (within (Some (pos n)) (pos least) (pos most)) ≡ within (Some (pos n)) (pos least) (pos most) → (least ≤ n) × (n ≤ most)
 in_range d item good k n least most l e =
     let f : Field = within (Some (pos n)) (pos least) (pos most) in
-    let at : All IsWithin (fields_of item) → IsWithin f = λ all. subst IsWithin e (all k f l) in
-    (stable_le least n (λ no_least. good Range (λ all. no_least (omega (arith, ints, (at all (pos n) refl).0)))),
-     stable_le n most (λ no_most. good Range (λ all. no_most (omega (arith, ints, (at all (pos n) refl).1)))))
+    let at : All IsWithin (fields_of item) → IsWithin f = λ all. subst IsWithin e (all k f l) in (
+      stable_le least n (λ no_least. good Range (λ all. no_least (omega (arith, ints, (at all (pos n) refl).0)))),
+      stable_le n most (λ no_most. good Range (λ all. no_most (omega (arith, ints, (at all (pos n) refl).1)))),
+    )
 
 -- an element of a list is some element
 Any-at : {X : Type 0} (P : X → Type 0) (xs : List X) (k : ℕ) (d : X) → k < length xs → P (get_or xs k d) → Any P xs
@@ -190,9 +189,10 @@ point_item p = APoint p.name (Some p.at.x) (Some p.at.y) (raw_kind p.kind)
 -- a kind in range
 IsKind-good : (d : Draft) (name : List ℕ) (x y : Option ℤ) (kind : Kind) → IsGood d (APoint name x y (raw_kind kind)) → IsKind kind
 IsKind-good d name x y (Turbine power) good = in_range d (APoint name x y (raw_kind (Turbine power))) good 2 power 1 1000 (omega arith) refl
-IsKind-good d name x y (Substation feeders power) good =
-    ((in_range d (APoint name x y (raw_kind (Substation feeders power))) good 2 feeders 0 256 (omega arith) refl).1,
-     (in_range d (APoint name x y (raw_kind (Substation feeders power))) good 3 power 0 300000 (omega arith) refl).1)
+IsKind-good d name x y (Substation feeders power) good = (
+  (in_range d (APoint name x y (raw_kind (Substation feeders power))) good 2 feeders 0 256 (omega arith) refl).1,
+  (in_range d (APoint name x y (raw_kind (Substation feeders power))) good 3 power 0 300000 (omega arith) refl).1,
+)
 IsKind-good d name x y Bend good = tt
 
 -- the points fit with a good one more
@@ -297,7 +297,7 @@ ObstaclesFit-complete d corner last draft good =
       corners_count = omega arith;
       outside = All-push (λ o. All (λ p. IsOutside p.at o) d.site.points) d.site.obstacles whole old.outside
           (λ k q l. stable_outside (get_or d.site.points k q).at whole
-              (λ n. good InObstacle (last, (corner, record { x_is = refl; y_is = refl }, Any-at (λ (p : Point). ¬ (IsOutside p.at whole)) d.site.points k q l n))));
+          (λ n. good InObstacle (last, (corner, record { x_is = refl; y_is = refl }, Any-at (λ (p : Point). ¬ (IsOutside p.at whole)) d.site.points k q l n))));
       room = λ h. absurd (omega arith);
       enough = λ h. absurd (omega arith);
     }

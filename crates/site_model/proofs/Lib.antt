@@ -3,3 +3,5 @@ pub mod Drafts
 pub mod Passed
 pub mod Candidates
 pub mod Costs
+pub mod Cheapest
+pub mod Nearest

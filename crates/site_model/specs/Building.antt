@@ -1,5 +1,5 @@
 -- The items that the calls of a builder give.
-use Rattle.std.specs.Prelude.{◌≡◌, ℕ, ℤ, pos, List, Option, Some, None}
+use Rattle.std.specs.Prelude.{ℕ, ℤ, pos, List, Option, Some, None}
 use Rattle.cable_definitions.specs.declared.site.Version.{Version}
 use Rattle.cable_definitions.specs.declared.site.Version.TheVariants.{One, Two}
 use Rattle.cable_definitions.specs.Items.{RawKind as KindItem, ATurbine, ASubstation, ABend, RawRule, ACharge, AClosing, RawItem, AType, APoint, APair, Stray}

@@ -2,3 +2,4 @@ pub mod Drafts
 pub mod Stages
 pub mod Building
 pub mod Passing
+pub mod Best
