@@ -1,10 +1,12 @@
 -- Lists whose elements have a number as key: the first element of a key, and sums key by key.
-use Rattle.std.proofs.Common.{◌≡◌, ◌≢◌, ℕ, zero, suc, ◌+◌, ◌<◌, ◌⊎◌, inl, inr, true, false, cond, eqb, List, [], ◌∷◌, ◌++◌, length, map, sum_by, find, is_some, option_map, Option, Some, None, slice_get, refl, ap, sym, ◌∙◌, arith, eq-eqb, ne_eqb}
+use Rattle.std.proofs.Common.{◌≡◌, ◌≢◌, ℤ, pos, ◌+ℤ◌, ℕ, zero, suc, ◌+◌, ◌<◌, ◌⊎◌, inl, inr, true, false, cond, eqb, List, [], ◌∷◌, ◌++◌, length, map, sum_by, find, is_some, option_map, Option, Some, None, slice_get, refl, ap, sym, ◌∙◌, arith, eq-eqb, ne_eqb}
 use Rattle.std.specs.Prelude.{◌==◌}
 use Rattle.std.specs.List.{range_with_len}
 use Rattle.std.proofs.lemmas.List.Sums.{sum_by-cons, get_or-le-sum_by}
 use Rattle.std.proofs.lemmas.Option.{slice_get_within, get_or_from_slice_get}
 use Rattle.std.proofs.lemmas.Bool.Decides.{eqb_tells}
+use Rattle.std.proofs.lemmas.Int.{ints}
+use Rattle.number_laws.proofs.Sums.{sum_int, sum_int-cons, sum_int-zero, sum_int-same, sum_int-plus, sum_int-one_of}
 use Rattle.number_laws.proofs.NatSums.{sum_by-same, sum_by-zeros, sum_by-plus, sum_by-one_of}
 
 -- the first element whose key is k
@@ -169,3 +171,44 @@ DifferentKeys-map key f xs e d i j v w g h l same =
     let a = slice_get-map_source f xs i v g in
     let b = slice_get-map_source f xs j w h in
     d i j a.0 b.0 a.1 b.1 l (sym (e b.0) ∙ ap key b.2 ∙ same ∙ ap key (sym a.2) ∙ e a.0)
+
+-- the value with a sign of an element, and 0 where there is none
+abbrev pub int_at : {X : Type 0} → (X → ℤ) → Option X → ℤ
+int_at f None = pos 0
+int_at f (Some x) = f x
+
+-- the value with a sign at a key, where the head is taken off
+pub int_at-cons : {X : Type 0} → (key : X → ℕ) (f : X → ℤ) (x : X) (xs : List X) → DifferentKeys key (x ∷ xs) → (k : ℕ)
+    → int_at f (first_at key (x ∷ xs) k) ≡ cond (eqb (key x) k) (f x) (pos 0) +ℤ int_at f (first_at key xs k)
+int_at-cons key f x xs d k = elim (eqb_tells (key x) k) [
+  | inl t ↦
+      let n : int_at f (first_at key xs k) ≡ pos 0 = ap (λ (j : ℕ). int_at f (first_at key xs j)) (sym t.1) ∙ ap (int_at f) (first_at-none key x xs d) in
+      let a : int_at f (first_at key (x ∷ xs) k) ≡ f x = rw t.0 refl in
+      let b : cond (eqb (key x) k) (f x) (pos 0) ≡ f x = rw t.0 refl in
+      omega (arith, ints, n, a, b)
+  | inr t ↦
+      let a : int_at f (first_at key (x ∷ xs) k) ≡ int_at f (first_at key xs k) = rw t.0 refl in
+      let b : cond (eqb (key x) k) (f x) (pos 0) ≡ pos 0 = rw t.0 refl in
+      omega (arith, ints, a, b)
+]
+
+-- where keys differ, a sum with signs over the elements of a key is the value of the first
+pub sum_int-one_key : {X : Type 0} → (key : X → ℕ) (f : X → ℤ) (xs : List X) (k : ℕ) → DifferentKeys key xs
+    → sum_int (λ x. cond (eqb (key x) k) (f x) (pos 0)) xs ≡ int_at f (first_at key xs k)
+sum_int-one_key key f [] k d = refl
+sum_int-one_key key f (x ∷ xs) k d =
+    let rest = sum_int-one_key key f xs k (DifferentKeys-rest key x xs d) in
+    omega (arith, ints, sum_int-cons (λ y. cond (eqb (key y) k) (f y) (pos 0)) x xs, rest, int_at-cons key f x xs d k)
+
+-- where keys differ and are below n, a sum with signs over the list is the sum over the keys below n of the value of the first element
+pub sum_int-keys : {X : Type 0} → (key : X → ℕ) (f : X → ℤ) (n : ℕ) (xs : List X) → DifferentKeys key xs → KeysBelow key n xs
+    → sum_int f xs ≡ sum_int (λ k. int_at f (first_at key xs k)) (range_with_len 0 n)
+sum_int-keys key f n [] d h = let z = sum_int-zero (range_with_len 0 n) in omega (arith, ints, z)
+sum_int-keys key f n (x ∷ xs) d h =
+    let tail = sum_int-keys key f n xs (DifferentKeys-rest key x xs d) (λ i y e. h (suc i) y e) in
+    let keys = range_with_len 0 n in
+    let below : key x < n = h 0 x refl in
+    let one = sum_int-one_of (key x) (f x) 0 n (omega arith) (omega arith) in
+    let all =
+    sum_int-same (λ k. int_at f (first_at key (x ∷ xs) k)) (λ k. cond (eqb (key x) k) (f x) (pos 0) +ℤ int_at f (first_at key xs k)) keys (int_at-cons key f x xs d) in
+    omega (arith, ints, sum_int-cons f x xs, tail, one, all, sum_int-plus (λ k. cond (eqb (key x) k) (f x) (pos 0)) (λ k. int_at f (first_at key xs k)) keys)

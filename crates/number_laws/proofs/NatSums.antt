@@ -1,5 +1,5 @@
 -- Sums of natural numbers over lists.
-use Rattle.std.proofs.Common.{◌≡◌, ℕ, zero, suc, ◌+◌, ◌*◌, ◌<◌, ◌≤◌, Bool, true, false, cond, eqb, List, [], ◌∷◌, sum_by, Some, slice_get, count_by, ◌≢◌, inl, inr, refl, ap, arith, ne_eqb}
+use Rattle.std.proofs.Common.{◌≡◌, ℕ, zero, suc, ◌+◌, ◌*◌, ◌<◌, ◌≤◌, Bool, true, false, cond, eqb, List, [], ◌∷◌, map, sum_by, Some, slice_get, count_by, ◌≢◌, inl, inr, refl, ap, arith, ne_eqb}
 use Rattle.std.specs.List.{range_with_len, list_any}
 use Rattle.std.proofs.lemmas.List.Sums.{sum_by-cons, get_or-le-sum_by}
 use Rattle.std.proofs.lemmas.Option.{slice_get_within, get_or_from_slice_get}
@@ -8,6 +8,21 @@ use Rattle.std.proofs.lemmas.Bool.Decides.{eqb_tells}
 -- two functions that agree everywhere
 pub sum_by-same : {X : Type 0} → (f g : X → ℕ) (xs : List X) → ((x : X) → f x ≡ g x) → sum_by f xs ≡ sum_by g xs
 sum_by-same f g xs e = ap (λ h. sum_by h xs) (λ i x. e x i)
+
+-- two functions that agree on the elements of the list
+pub sum_by-same_on : {X : Type 0} → (f g : X → ℕ) (xs : List X) → ((i : ℕ) (x : X) → slice_get xs i ≡ Some x → f x ≡ g x) → sum_by f xs ≡ sum_by g xs
+sum_by-same_on f g [] e = refl
+sum_by-same_on f g (x ∷ xs) e = omega (arith, sum_by-cons f x xs, sum_by-cons g x xs, e 0 x refl, sum_by-same_on f g xs (λ i. e (suc i)))
+
+-- terms of which each is at most the other, on the elements of the list
+pub sum_by-le_on : {X : Type 0} → (f g : X → ℕ) (xs : List X) → ((i : ℕ) (x : X) → slice_get xs i ≡ Some x → f x ≤ g x) → sum_by f xs ≤ sum_by g xs
+sum_by-le_on f g [] h = omega arith
+sum_by-le_on f g (x ∷ xs) h = omega (arith, sum_by-cons f x xs, sum_by-cons g x xs, h 0 x refl, sum_by-le_on f g xs (λ i. h (suc i)))
+
+-- a sum over a list that was changed
+pub sum_by-map : {X Y : Type 0} → (f : Y → ℕ) (g : X → Y) (xs : List X) → sum_by f (map g xs) ≡ sum_by (λ x. f (g x)) xs
+sum_by-map f g [] = refl
+sum_by-map f g (x ∷ xs) = omega (arith, sum_by-cons f (g x) (map g xs), sum_by-cons (λ x. f (g x)) x xs, sum_by-map f g xs)
 
 -- the sum of zeros
 pub sum_by-zeros : {X : Type 0} → (xs : List X) → sum_by (λ (x : X). 0) xs ≡ 0
