@@ -2,3 +2,4 @@ pub mod Writing
 pub mod Numerals
 pub mod Reading
 pub mod Held
+pub mod Pending

@@ -2,3 +2,4 @@
 pub mod Stream
 pub mod Number
 pub mod Memory
+pub mod Lines

@@ -1,0 +1,86 @@
+-- Lines of the bytes of a source.
+use Rattle.std.specs.Prelude.{◌≡◌, ℕ, ◌+◌, ◌-◌, ◌^◌, ◌<◌, ◌≤◌, min, List, [], ◌∷◌, ◌++◌, length, slice_get, Option, Some, None, Result, Ok, Err}
+use Rattle.cable_definitions.specs.Text.{Piece, Whole, LongLine, CutLine, NoLine, IsNext, HasNoNewline}
+use Rattle.cable_text.specs.Stream.{Rose, IsAtEnd}
+use Rattle.cable_text.specs.declared.fault.Line.{Line}
+use Rattle.cable_text.specs.declared.fault.Line.TheVariants.{Text, End}
+use Rattle.cable_text.specs.declared.fault.LineFault.{LineFault}
+use Rattle.cable_text.specs.declared.fault.LineFault.TheVariants.{TooLong, NoNewline, Read}
+
+-- what a buffer holds: the last line without its newline, and the bytes that were pulled and belong to no line yet
+pub record BufferState : Type 0 where
+  pub text : List ℕ
+  pub pending : List ℕ
+
+-- what a reader of lines holds: beside that how many lines it has read, the number of the last line, missing or broken ones included, and the fault that it keeps
+pub record LinesState : Type 0 where
+  pub text : List ℕ
+  pub pending : List ℕ
+  pub lines : ℕ
+  pub number : ℕ
+  pub kept : Option LineFault
+
+-- the pending bytes began with the line and a newline
+pub record IsCut (pending : List ℕ) (new : BufferState) : Type 0 where
+  pub whole : pending ≡ new.text ++ 10 ∷ new.pending
+  pub plain : HasNoNewline new.text
+  pub short : length new.text ≤ 4096
+
+-- all bytes that are to come: those pending, and those left in a source that tells them
+abbrev pub ahead : List ℕ → Option (List ℕ) → Option (List ℕ)
+ahead pending None = None
+ahead pending (Some left) = Some (pending ++ left)
+
+-- this piece stands next in the bytes to come, and these are left after it
+abbrev pub Finds : Option (List ℕ) → Piece → Option (List ℕ) → Type 0
+Finds None piece after = after ≡ None
+Finds (Some bytes) piece after = (rest : List ℕ) × IsNext bytes piece rest × (after ≡ Some rest)
+
+-- what a search for the next line does to the bytes to come: a source that tells nothing gives short lines without a newline all the same
+abbrev pub ReadsPiece : Option (List ℕ) → Option (List ℕ) → List ℕ → ℕ → ℕ → Result Line LineFault → Type 0
+ReadsPiece old new text i j (Ok Text) = Finds old (Whole text) new × HasNoNewline text × (length text ≤ 4096)
+ReadsPiece old new text i j (Ok End) = Finds old NoLine new
+ReadsPiece old new text i j (Err TooLong) = Finds old LongLine new
+ReadsPiece old new text i j (Err NoNewline) = Finds old CutLine new
+ReadsPiece old new text i j (Err Read) = Rose i j
+
+-- the number of the line after so many, which stands still at its last value
+abbrev pub next_number : ℕ → ℕ
+next_number lines = min (lines + 1) (2 ^ 64 - 1)
+
+-- how many lines were read after a call with this answer
+abbrev pub lines_after : ℕ → Result Line LineFault → ℕ
+lines_after lines (Ok Text) = next_number lines
+lines_after lines (Ok End) = lines
+lines_after lines (Err fault) = lines
+
+-- the fault that is kept after such an answer
+abbrev pub fault_of : {A : Type 0} → Result A LineFault → Option LineFault
+fault_of (Ok a) = None
+fault_of (Err fault) = Some fault
+
+-- what a call for the next line does, where no fault was kept
+pub record ReadsLine (old new : LinesState) (left_old left_new : Option (List ℕ)) (faults_old faults_new : ℕ) (result : Result Line LineFault) : Type 0 where
+  pub piece : ReadsPiece (ahead old.pending left_old) (ahead new.pending left_new) new.text faults_old faults_new result
+  pub number : new.number ≡ next_number old.lines
+  pub lines : new.lines ≡ lines_after old.lines result
+  pub kept : new.kept ≡ fault_of result
+
+-- a look at the next byte finds it and leaves it, or finds the end, or a count rose
+abbrev pub PeeksByte : LinesState → LinesState → Option (List ℕ) → Option (List ℕ) → ℕ → ℕ → Result (Option ℕ) LineFault → Type 0
+PeeksByte old new left_old left_new i j (Ok (Some b)) =
+    (slice_get new.pending 0 ≡ Some b) × (ahead new.pending left_new ≡ ahead old.pending left_old) × (new.number ≡ old.number) × (new.lines ≡ old.lines) × (new.kept ≡ None)
+PeeksByte old new left_old left_new i j (Ok None) =
+    IsAtEnd (ahead old.pending left_old) × (ahead new.pending left_new ≡ ahead old.pending left_old) × (new.number ≡ old.number) × (new.lines ≡ old.lines) × (new.kept ≡ None)
+PeeksByte old new left_old left_new i j (Err fault) =
+    (fault ≡ Read) × Rose i j × (new.number ≡ next_number old.lines) × (new.lines ≡ old.lines) × (new.kept ≡ Some Read)
+
+-- these are all bytes to come, where they are told
+abbrev pub IsRest : Option (List ℕ) → List ℕ → Type 0
+IsRest None bytes = Unit {0}
+IsRest (Some all) bytes = all ≡ bytes
+
+-- more bytes than this were to come, where they are told
+abbrev pub IsLonger : Option (List ℕ) → ℕ → Type 0
+IsLonger None most = Unit {0}
+IsLonger (Some all) most = most < length all
