@@ -1,4 +1,6 @@
 //! Sites in line form, read and written.
 #![tactic(auto)]
 
+mod item;
+mod keyword;
 mod words;
