@@ -2,3 +2,5 @@
 pub mod Words
 -- the words that a line may begin with
 pub mod Keyword
+-- the fields of a line that is written
+pub mod Line

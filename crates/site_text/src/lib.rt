@@ -1,6 +1,8 @@
 //! Sites in line form, read and written.
 #![tactic(auto)]
 
-mod item;
 mod keyword;
+mod line;
 mod words;
+
+pub use line::{Field, push_line};

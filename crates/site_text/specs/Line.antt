@@ -1,0 +1,15 @@
+-- The fields of a line that is written.
+use Rattle.std.specs.Prelude.{ℕ, List, [], ◌∷◌, ◌++◌}
+use Rattle.cable_definitions.specs.Text.{number}
+use Rattle.site_text.specs.declared.line.Field.{Field}
+use Rattle.site_text.specs.declared.line.Field.TheVariants.{Word, Number}
+
+-- the text of a field
+abbrev pub field_text : Field → List ℕ
+field_text (Word word) = word.now
+field_text (Number z) = number z
+
+-- words with a space before each
+abbrev pub spaced : List (List ℕ) → List ℕ
+spaced [] = []
+spaced (w ∷ ws) = 32 ∷ w ++ spaced ws
