@@ -1,5 +1,5 @@
 -- The fields of a line that is written.
-use Rattle.std.specs.Prelude.{ℕ, List, [], ◌∷◌, ◌++◌}
+use Rattle.std.specs.Prelude.{ℕ, List, ◌∷◌}
 use Rattle.cable_definitions.specs.Text.{number}
 use Rattle.site_text.specs.declared.line.Field.{Field}
 use Rattle.site_text.specs.declared.line.Field.TheVariants.{Word, Number}
@@ -9,7 +9,6 @@ abbrev pub field_text : Field → List ℕ
 field_text (Word word) = word.now
 field_text (Number z) = number z
 
--- words with a space before each
-abbrev pub spaced : List (List ℕ) → List ℕ
-spaced [] = []
-spaced (w ∷ ws) = 32 ∷ w ++ spaced ws
+-- a field with a space before it
+abbrev pub spaced : Field → List ℕ
+spaced field = 32 ∷ field_text field

@@ -4,5 +4,7 @@
 mod keyword;
 mod line;
 mod words;
+mod write;
 
 pub use line::{Field, push_line};
+pub use write::write_site;

@@ -1,6 +1,7 @@
 //! Lines written field by field.
 
 ghost use Rattle.std.specs.Prelude.{◌∷◌, map};
+ghost use Rattle.std.specs.List.{concat};
 ghost use Rattle.cable_definitions.specs.Text.{line};
 ghost use Rattle.cable_text.specs.Stream.{Writes};
 ghost use Rattle.site_text.specs.Line.{field_text, spaced};
@@ -21,7 +22,7 @@ pub enum Field<'a> {
 /// `Failed` only where the count of `out` rose or stands at its last value. Some first part of the
 /// line was appended then.
 pub fn push_line<O: Sink>(word: &[u8], fields: &[Field], out: &mut O) -> Result<(), Failed>
-    ensures writes { Writes result (O.taken out.old) (O.taken out.new) (O.faults out.old)
+    ensures { Writes result (O.taken out.old) (O.taken out.new) (O.faults out.old)
         (O.faults out.new) (line (word.now ∷ map field_text fields.now)) }
 {
     out.push(word)?;
@@ -31,19 +32,27 @@ pub fn push_line<O: Sink>(word: &[u8], fields: &[Field], out: &mut O) -> Result<
 
 // Appends the fields with a space before each.
 fn push_fields<O: Sink>(fields: &[Field], out: &mut O) -> Result<(), Failed>
-    ensures writes { Writes result (O.taken out.old) (O.taken out.new) (O.faults out.old)
-        (O.faults out.new) (spaced (map field_text fields.now)) }
+    ensures { Writes result (O.taken out.old) (O.taken out.new) (O.faults out.old)
+        (O.faults out.new) (concat (map spaced fields.now)) }
 {
     for field in fields {
-        out.push(b" ")?;
-        push_field(field, out)?;
+        push_spaced(field, out)?;
     }
     Ok(())
 }
 
+// Appends a space and the field.
+fn push_spaced<O: Sink>(field: &Field, out: &mut O) -> Result<(), Failed>
+    ensures { Writes result (O.taken out.old) (O.taken out.new) (O.faults out.old)
+        (O.faults out.new) (spaced field.now) }
+{
+    out.push(b" ")?;
+    push_field(field, out)
+}
+
 // Appends the field.
 fn push_field<O: Sink>(field: &Field, out: &mut O) -> Result<(), Failed>
-    ensures writes { Writes result (O.taken out.old) (O.taken out.new) (O.faults out.old)
+    ensures { Writes result (O.taken out.old) (O.taken out.new) (O.faults out.old)
         (O.faults out.new) (field_text field.now) }
 {
     match field {

@@ -1,0 +1,203 @@
+//! Sites written in line form.
+
+ghost use Rattle.std.specs.Prelude.{◌≡◌, ◌<◌, length, map, slice_get};
+ghost use Rattle.std.specs.List.{concat};
+ghost use Rattle.cable_definitions.specs.Text.{site_line, mode_line, type_line, point_line, corner_line, obstacle_lines, pair_line, name_from, site_lines};
+ghost use Rattle.cable_definitions.specs.Site.{IsPair};
+ghost use Rattle.cable_text.specs.Stream.{Writes};
+
+use crate::line::{Field, push_line};
+use cable_text::{Failed, Sink};
+use site_model::{CableType, Kind, Mode, Obstacle, Pair, PairRule, Place, Point, Site, Version};
+
+/// Appends the one text of the site in line form, up to and with `end site`.
+///
+/// # Errors
+///
+/// `Failed` only where the count of `out` rose or stands at its last value. Some first part of the
+/// text was appended then.
+pub fn write_site<O: Sink>(site: &Site, out: &mut O) -> Result<(), Failed>
+    ensures writes { Writes result (O.taken out.old) (O.taken out.new) (O.faults out.old)
+        (O.faults out.new) (site_lines site.now) }
+{
+    push_version(site.version(), out)?;
+    push_mode(site.mode(), out)?;
+    push_types(site.version(), site.types(), out)?;
+    push_points(site.points(), out)?;
+    push_obstacles(site.obstacles(), out)?;
+    push_pairs(site, out)?;
+    push_line(b"end", &[Field::Word(b"site")], out)
+}
+
+// Appends `site 1` or `site 2`.
+fn push_version<O: Sink>(version: Version, out: &mut O) -> Result<(), Failed>
+    ensures { Writes result (O.taken out.old) (O.taken out.new) (O.faults out.old)
+        (O.faults out.new) (site_line version) }
+{
+    match version {
+        Version::One => push_line(b"site", &[Field::Word(b"1")], out),
+        Version::Two => push_line(b"site", &[Field::Word(b"2")], out),
+    }
+}
+
+// Appends `mode tree` or `mode strings`.
+fn push_mode<O: Sink>(mode: Mode, out: &mut O) -> Result<(), Failed>
+    ensures { Writes result (O.taken out.old) (O.taken out.new) (O.faults out.old)
+        (O.faults out.new) (mode_line mode) }
+{
+    match mode {
+        Mode::Tree => push_line(b"mode", &[Field::Word(b"tree")], out),
+        Mode::Strings => push_line(b"mode", &[Field::Word(b"strings")], out),
+    }
+}
+
+// Appends the lines of the cable types.
+fn push_types<O: Sink>(version: Version, types: &[CableType], out: &mut O) -> Result<(), Failed>
+    ensures { Writes result (O.taken out.old) (O.taken out.new) (O.faults out.old)
+        (O.faults out.new) (concat (map (type_line version) types.now)) }
+{
+    for cable_type in types {
+        push_type(version, *cable_type, out)?;
+    }
+    Ok(())
+}
+
+// Appends the line of a cable type.
+fn push_type<O: Sink>(version: Version, cable_type: CableType, out: &mut O) -> Result<(), Failed>
+    ensures { Writes result (O.taken out.old) (O.taken out.new) (O.faults out.old)
+        (O.faults out.new) (type_line version cable_type) }
+{
+    let capacity = Field::Number(i128::from(cable_type.capacity));
+    let price = Field::Number(i128::from(cable_type.price));
+    match version {
+        Version::One => push_line(b"type", &[capacity, price], out),
+        Version::Two => {
+            let loss = Field::Number(i128::from(cable_type.loss));
+            push_line(b"type", &[capacity, price, loss], out)
+        }
+    }
+}
+
+// Appends the lines of the points.
+fn push_points<O: Sink>(points: &[Point], out: &mut O) -> Result<(), Failed>
+    ensures { Writes result (O.taken out.old) (O.taken out.new) (O.faults out.old)
+        (O.faults out.new) (concat (map point_line points.now)) }
+{
+    for point in points {
+        push_point(point, out)?;
+    }
+    Ok(())
+}
+
+// Appends the line of a point.
+fn push_point<O: Sink>(point: &Point, out: &mut O) -> Result<(), Failed>
+    ensures { Writes result (O.taken out.old) (O.taken out.new) (O.faults out.old)
+        (O.faults out.new) (point_line point.now) }
+{
+    let name = Field::Word(point.name.as_slice());
+    let x = Field::Number(x_of(point.at));
+    let y = Field::Number(y_of(point.at));
+    match point.kind {
+        Kind::Turbine { power } => {
+            push_line(b"turbine", &[name, x, y, Field::Number(i128::from(power))], out)
+        }
+        Kind::Substation { feeders, power } => {
+            let feeders = Field::Number(i128::from(feeders));
+            let power = Field::Number(i128::from(power));
+            push_line(b"substation", &[name, x, y, feeders, power], out)
+        }
+        Kind::Bend => push_line(b"bend", &[name, x, y], out),
+    }
+}
+
+// Appends the lines of the obstacles.
+fn push_obstacles<O: Sink>(obstacles: &[Obstacle], out: &mut O) -> Result<(), Failed>
+    ensures { Writes result (O.taken out.old) (O.taken out.new) (O.faults out.old)
+        (O.faults out.new) (concat (map obstacle_lines obstacles.now)) }
+{
+    for obstacle in obstacles {
+        push_obstacle(obstacle, out)?;
+    }
+    Ok(())
+}
+
+// Appends the line of an obstacle and those of its corners.
+fn push_obstacle<O: Sink>(obstacle: &Obstacle, out: &mut O) -> Result<(), Failed>
+    ensures { Writes result (O.taken out.old) (O.taken out.new) (O.faults out.old)
+        (O.faults out.new) (obstacle_lines obstacle.now) }
+{
+    let corners = obstacle.as_slice();
+    let count = Field::Number(corners.len() as i128);
+    push_line(b"obstacle", &[count], out)?;
+    push_corners(corners, out)
+}
+
+// Appends the lines of the corners.
+fn push_corners<O: Sink>(corners: &[Place], out: &mut O) -> Result<(), Failed>
+    ensures { Writes result (O.taken out.old) (O.taken out.new) (O.faults out.old)
+        (O.faults out.new) (concat (map corner_line corners.now)) }
+{
+    for corner in corners {
+        push_corner(*corner, out)?;
+    }
+    Ok(())
+}
+
+// Appends the line of a corner.
+fn push_corner<O: Sink>(corner: Place, out: &mut O) -> Result<(), Failed>
+    ensures { Writes result (O.taken out.old) (O.taken out.new) (O.faults out.old)
+        (O.faults out.new) (corner_line corner) }
+{
+    let x = Field::Number(x_of(corner));
+    let y = Field::Number(y_of(corner));
+    push_line(b"corner", &[x, y], out)
+}
+
+// The first coordinate as a wider number.
+fn x_of(place: Place) -> i128
+    ensures { result ≡ place.x }
+{
+    i128::from(place.x)
+}
+
+// The second coordinate as a wider number.
+fn y_of(place: Place) -> i128
+    ensures { result ≡ place.y }
+{
+    i128::from(place.y)
+}
+
+// Appends the lines of the pair rules.
+fn push_pairs<O: Sink>(site: &Site, out: &mut O) -> Result<(), Failed>
+    ensures { Writes result (O.taken out.old) (O.taken out.new) (O.faults out.old)
+        (O.faults out.new) (concat (map (pair_line site.now) site.now.pairs)) }
+{
+    for pair in site.pairs() {
+        push_pair(site, *pair, out)?;
+    }
+    Ok(())
+}
+
+// Appends the line of a pair rule.
+fn push_pair<O: Sink>(site: &Site, pair: Pair, out: &mut O) -> Result<(), Failed>
+    requires { IsPair site.now.points pair }
+    ensures { Writes result (O.taken out.old) (O.taken out.new) (O.faults out.old)
+        (O.faults out.new) (pair_line site.now pair) }
+{
+    let a = Field::Word(name_of(site.points(), pair.a));
+    let b = Field::Word(name_of(site.points(), pair.b));
+    match pair.rule {
+        PairRule::Charge(amount) => {
+            push_line(b"charge", &[a, b, Field::Number(i128::from(amount))], out)
+        }
+        PairRule::Closed => push_line(b"closed", &[a, b], out),
+    }
+}
+
+// The name of a point.
+fn name_of(points: &[Point], number: u32) -> &[u8]
+    requires { number < length points.now }
+    ensures { result.now ≡ name_from (slice_get points.now number) }
+{
+    points[number as usize].name.as_slice()
+}
