@@ -1,2 +1,4 @@
 pub mod Splitting
 pub mod Writers
+pub mod PointLines
+pub mod SiteLines

@@ -60,3 +60,12 @@ wrote_more_of f xs i x h e p q = wrote_more f xs i x h p (written_as q (ap f (sy
 
 pub wrote_part_of : {X : Type 0} (f : X → List ℕ) (xs : List X) (i : ℕ) (x : X) {u : Unit {0}} {e : Failed} {r : Result (Unit {0}) Failed} {a b c : Option (List ℕ)} {m n o : ℕ} → i < length xs → x ≡ get_or xs i x → IsErr r → Writes {E = Failed} (Ok u) a b m n (concat (map f (take i xs))) → Writes {A = Unit {0}} (Err e) b c n o (f x) → Writes r a c m o (concat (map f xs))
 wrote_part_of f xs i x h same is p q = wrote_part f xs i x h is p (written_as q (ap f (sym same)))
+
+-- a first part of a text is one of a longer text
+pub longer : {r : Result (Unit {0}) Failed} {a b : Option (List ℕ)} {i j : ℕ} {first : List ℕ} (second : List ℕ) → IsErr r → Writes r a b i j first → Writes r a b i j (first ++ second)
+longer {r = Ok u} second h p = cc
+longer {r = Err f} second h p = Writes-stop f second p
+
+-- a failure that is handed on
+pub handed : {r : Result (Unit {0}) Failed} {e : Failed} {a b : Option (List ℕ)} {i j : ℕ} {first : List ℕ} → IsErr r → Writes {A = Unit {0}} (Err e) a b i j first → Writes r a b i j first
+handed {first} h p = stopped [] h p (sym (append-nil first))

@@ -25,7 +25,11 @@ fn next_word<'a>(rest: Option<&'a [u8]>) -> Option<(&'a [u8], Option<&'a [u8]>)>
         are_fields (suc n) (rest_parts (option_copied rest.entry)) ≡ are_fields n (rest_parts (option_copied r.1))) }
 {
     let (word, rest) = cut(rest?);
-    if word.is_empty() { None } else { Some((word, rest)) }
+    if word.is_empty() {
+        None
+    } else {
+        Some((word, rest))
+    }
 }
 
 // The one word that is left; none where there is another number of words, or an empty one.
@@ -89,7 +93,9 @@ pub fn four_words<'a>(rest: Option<&'a [u8]>) -> Option<(&'a [u8], &'a [u8], &'a
 }
 
 // The five words that are left; none where there is another number of words, or an empty one.
-pub fn five_words<'a>(rest: Option<&'a [u8]>) -> Option<(&'a [u8], &'a [u8], &'a [u8], &'a [u8], &'a [u8])>
+pub fn five_words<'a>(
+    rest: Option<&'a [u8]>,
+) -> Option<(&'a [u8], &'a [u8], &'a [u8], &'a [u8], &'a [u8])>
     ensures none { IfNone result (are_fields 5 (rest_parts (option_copied rest.entry)) ≡ false) }
     ensures words { IfSome result (λ r. rest_parts (option_copied rest.entry)
         ≡ r.0.now ∷ r.1.now ∷ r.2.now ∷ r.3.now ∷ r.4.now ∷ []) }

@@ -2,9 +2,11 @@
 
 ghost use Rattle.std.specs.Prelude.{◌≡◌, ◌<◌, length, map, slice_get};
 ghost use Rattle.std.specs.List.{concat};
-ghost use Rattle.cable_definitions.specs.Text.{site_line, mode_line, type_line, point_line, corner_line, obstacle_lines, pair_line, name_from, site_lines};
+ghost use Rattle.cable_definitions.specs.Text.{number, site_line, mode_line, type_line, point_line, corner_line, obstacle_lines, pair_line, name_from, site_lines};
 ghost use Rattle.cable_definitions.specs.Site.{IsPair};
+ghost use Rattle.std.specs.Fmt.{decimal};
 ghost use Rattle.cable_text.specs.Stream.{Writes};
+ghost use Rattle.site_text.specs.Line.{field_text};
 
 use crate::line::{Field, push_line};
 use cable_text::{Failed, Sink};
@@ -17,7 +19,7 @@ use site_model::{CableType, Kind, Mode, Obstacle, Pair, PairRule, Place, Point, 
 /// `Failed` only where the count of `out` rose or stands at its last value. Some first part of the
 /// text was appended then.
 pub fn write_site<O: Sink>(site: &Site, out: &mut O) -> Result<(), Failed>
-    ensures writes { Writes result (O.taken out.old) (O.taken out.new) (O.faults out.old)
+    ensures { Writes result (O.taken out.old) (O.taken out.new) (O.faults out.old)
         (O.faults out.new) (site_lines site.now) }
 {
     push_version(site.version(), out)?;
@@ -67,14 +69,11 @@ fn push_type<O: Sink>(version: Version, cable_type: CableType, out: &mut O) -> R
     ensures { Writes result (O.taken out.old) (O.taken out.new) (O.faults out.old)
         (O.faults out.new) (type_line version cable_type) }
 {
-    let capacity = Field::Number(i128::from(cable_type.capacity));
-    let price = Field::Number(i128::from(cable_type.price));
+    let capacity = count_of(cable_type.capacity);
+    let price = count_of(cable_type.price);
     match version {
         Version::One => push_line(b"type", &[capacity, price], out),
-        Version::Two => {
-            let loss = Field::Number(i128::from(cable_type.loss));
-            push_line(b"type", &[capacity, price, loss], out)
-        }
+        Version::Two => push_line(b"type", &[capacity, price, count_of(cable_type.loss)], out),
     }
 }
 
@@ -95,19 +94,37 @@ fn push_point<O: Sink>(point: &Point, out: &mut O) -> Result<(), Failed>
         (O.faults out.new) (point_line point.now) }
 {
     let name = Field::Word(point.name.as_slice());
-    let x = Field::Number(x_of(point.at));
-    let y = Field::Number(y_of(point.at));
+    let x = x_of(point.at);
+    let y = y_of(point.at);
     match point.kind {
-        Kind::Turbine { power } => {
-            push_line(b"turbine", &[name, x, y, Field::Number(i128::from(power))], out)
-        }
+        Kind::Turbine { power } => push_line(b"turbine", &[name, x, y, count_of(power)], out),
         Kind::Substation { feeders, power } => {
-            let feeders = Field::Number(i128::from(feeders));
-            let power = Field::Number(i128::from(power));
-            push_line(b"substation", &[name, x, y, feeders, power], out)
+            let fields = [name, x, y, count_of(feeders), count_of(power)];
+            push_line(b"substation", &fields, out)
         }
         Kind::Bend => push_line(b"bend", &[name, x, y], out),
     }
+}
+
+// A number that isn't negative.
+fn count_of(value: u32) -> Field<'static>
+    ensures { field_text result ≡ decimal value }
+{
+    Field::Number(i128::from(value))
+}
+
+// The first coordinate of a place.
+fn x_of(place: Place) -> Field<'static>
+    ensures { field_text result ≡ number place.x }
+{
+    Field::Number(i128::from(place.x))
+}
+
+// The second coordinate of a place.
+fn y_of(place: Place) -> Field<'static>
+    ensures { field_text result ≡ number place.y }
+{
+    Field::Number(i128::from(place.y))
 }
 
 // Appends the lines of the obstacles.
@@ -127,9 +144,15 @@ fn push_obstacle<O: Sink>(obstacle: &Obstacle, out: &mut O) -> Result<(), Failed
         (O.faults out.new) (obstacle_lines obstacle.now) }
 {
     let corners = obstacle.as_slice();
-    let count = Field::Number(corners.len() as i128);
-    push_line(b"obstacle", &[count], out)?;
+    push_line(b"obstacle", &[len_of(corners)], out)?;
     push_corners(corners, out)
+}
+
+// How many corners there are.
+fn len_of(corners: &[Place]) -> Field<'static>
+    ensures { field_text result ≡ decimal (length corners.now) }
+{
+    Field::Number(corners.len() as i128)
 }
 
 // Appends the lines of the corners.
@@ -148,23 +171,7 @@ fn push_corner<O: Sink>(corner: Place, out: &mut O) -> Result<(), Failed>
     ensures { Writes result (O.taken out.old) (O.taken out.new) (O.faults out.old)
         (O.faults out.new) (corner_line corner) }
 {
-    let x = Field::Number(x_of(corner));
-    let y = Field::Number(y_of(corner));
-    push_line(b"corner", &[x, y], out)
-}
-
-// The first coordinate as a wider number.
-fn x_of(place: Place) -> i128
-    ensures { result ≡ place.x }
-{
-    i128::from(place.x)
-}
-
-// The second coordinate as a wider number.
-fn y_of(place: Place) -> i128
-    ensures { result ≡ place.y }
-{
-    i128::from(place.y)
+    push_line(b"corner", &[x_of(corner), y_of(corner)], out)
 }
 
 // Appends the lines of the pair rules.

@@ -1,0 +1,11 @@
+use Rattle.std.proofs.Common.{Result, Ok, take, map}
+use Rattle.std.specs.List.{concat}
+use Rattle.cable_text.specs.declared.stream.Failed.{Failed}
+use Rattle.cable_text.specs.Stream.{Writes}
+use Rattle.cable_definitions.specs.Text.{pair_line}
+use Rattle.site_text.proofs.write.push_pairs.Given as goal
+
+abbrev pub invariant-loop-pair : goal.invariant-loop-pair
+invariant-loop-pair g l =
+    Writes {A = Unit {0}} {E = Failed} (Ok tt) (g.O.Sink.taken l.initial.out) (g.O.Sink.taken l.out) (g.O.Sink.faults l.initial.out) (g.O.Sink.faults l.out)
+    (concat (map (pair_line l.site) (take l.pair-index l.pair-items)))
