@@ -2,5 +2,7 @@
 pub mod First
 -- numbers of the site, and starts that come again
 pub mod Numbers
+-- the order in which the cables of an arranged layout stand
+pub mod Order
 -- what a verdict says of a list of cables
 pub mod Verdict
