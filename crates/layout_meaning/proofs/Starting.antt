@@ -1,5 +1,5 @@
 -- Capacities and clashes, start by start, where no two cables start alike.
-use Rattle.std.proofs.Common.{◌≡◌, ◌≢◌, ℕ, ◌<◌, ◌≤◌, ◌⊎◌, List, length, Option, Some, None, inl, inr, arith, refl, sym, ap, ◌∙◌, subst}
+use Rattle.std.proofs.Common.{◌≡◌, ℕ, ◌<◌, ◌≤◌, List, length, Option, Some, None, inl, inr, arith, refl, sym, ◌∙◌, subst}
 use Rattle.std.proofs.lemmas.Bool.{cases_order}
 use Rattle.cable_definitions.specs.declared.cable.Cable.{Cable}
 use Rattle.cable_definitions.specs.declared.site.Point.{Point}
@@ -10,7 +10,7 @@ use Rattle.cable_definitions.specs.Walk.{cable_out, load}
 use Rattle.cable_definitions.specs.Layout.{IsCable, KeepsRange, KeepsStart, KeepsCapacity, KeepsClear, SamePair, PairsClash, IsBefore}
 use Rattle.layout_meaning.specs.First.{IsFirst, IsFirstStart, IsFirstPair}
 use Rattle.layout_meaning.specs.Numbers.{AreNumbers}
-use Rattle.layout_meaning.proofs.Places.{IsOut, same_item, out_place, out_none}
+use Rattle.layout_meaning.proofs.Places.{same_item, out_place, out_none}
 use Rattle.layout_meaning.proofs.Numbering.{numbers_here}
 
 -- an option that is no `Some` is `None`

@@ -1,5 +1,5 @@
 -- The first place at which something isn't kept.
-use Rattle.std.specs.Prelude.{◌≡◌, ℕ, ◌<◌, List}
+use Rattle.std.specs.Prelude.{ℕ, ◌<◌, List}
 use Rattle.cable_definitions.specs.declared.cable.Cable.{Cable}
 use Rattle.cable_definitions.specs.declared.cable.Rule.{Rule}
 use Rattle.cable_definitions.specs.Layout.{IsCable, IsBefore, Keeps, rule_number}

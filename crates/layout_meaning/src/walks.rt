@@ -2,6 +2,7 @@ ghost use Rattle.std.specs.Prelude.{◌≡◌, ◌≤◌, ◌↔◌, IsTrue};
 ghost use Rattle.cable_definitions.specs.Walk.{cable_out as cable_out_of, passes as passes_by, load as load_of, walk_end as walk_end_of, most_steps};
 ghost use Rattle.cable_definitions.specs.Layout.{Starts};
 ghost use Rattle.cable_definitions.specs.Arcs.{power_of_kind};
+ghost use Rattle.cable_definitions.specs.Site.{IsValid};
 
 use cable_definitions::cable::Cable;
 use site_model::{Kind, Point, Site};
@@ -71,6 +72,7 @@ fn power_of(point: &Point) -> u32
 pub fn load(site: &Site, cables: &[Cable], p: u32) -> u32
     ensures value { result ≡ load_of site.now cables.now p }
     ensures small { result ≤ 256000 }
+    ensures valid { IsValid site.now }
 {
     let points = site.points();
     let mut total: u32 = 0;

@@ -1,5 +1,4 @@
 use Rattle.std.proofs.lemmas.Bool.{iff_false}
-use Rattle.cable_definitions.specs.Arcs.{IsPoint}
 use Rattle.layout_meaning.proofs.Places.{point_at}
 use Rattle.layout_meaning.proofs.Starting.{pairs_clash_from, pairs_clash_segments}
 use Rattle.layout_meaning.proofs.clashes.pairs_clash.Goals as goal

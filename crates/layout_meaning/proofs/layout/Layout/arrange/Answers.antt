@@ -1,3 +1,4 @@
+use Rattle.std.proofs.Common.{rules}
 use Rattle.std.proofs.lemmas.List.Sorted.{answers_always}
 use Rattle.cable_definitions.specs.declared.cable.Cable.{Cable}
 use Rattle.layout_meaning.proofs.Arranging.{arranged}
