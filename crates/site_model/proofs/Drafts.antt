@@ -23,7 +23,7 @@ use Rattle.cable_definitions.specs.Plane.{SamePlace, IsOutside}
 use Rattle.cable_definitions.specs.Site.{Site, version_number, latest_version, IsCableType, IsKind, IsObstacle, IsPairRule, IsPair, joins, IsValid}
 use Rattle.cable_definitions.specs.Text.{name_of}
 use Rattle.cable_definitions.specs.Items.{RawItem, AVersion, AMode, AType, APoint, AnObstacle, ACorner, APair, TheEnd, Misshapen, Stray, Unended, Missing, Overlong, Draft, empty_draft, is_settled, may_stand, Field, within, fields_of, IsWithin, IsAt, raw_kind, raw_rule, IsOnNames, IsGood, Adds, with_corner}
-use Rattle.site_model.specs.Drafts.{TypesFit, PointsFit, ObstaclesFit, PairsFit, StageFits, IsDraft, FitsVersion}
+use Rattle.site_model.specs.Drafts.{item_of_version, item_of_type, item_of_point, item_of_corner, item_of_pair, TypesFit, PointsFit, ObstaclesFit, PairsFit, StageFits, IsDraft, FitsVersion}
 
 -- ---- facts that hold where they can't fail
 -- a test that can't be false is true
@@ -104,16 +104,12 @@ TypesFit-none version other types none fit = record {
   each = subst (λ (ts : List CableType). All (IsCableType other) ts) (sym none) (All-nil _);
 }
 
--- the item of a version
-abbrev version_item : Version → RawItem
-version_item version = AVersion (Some (pos (version_number version)))
-
 -- a version
-IsDraft-version : (d : Draft) (version : Version) → IsDraft d → IsGood d (version_item version) → IsDraft (record d { stage = 1; site = record d.site { version = version } })
+IsDraft-version : (d : Draft) (version : Version) → IsDraft d → IsGood d (item_of_version version) → IsDraft (record d { stage = 1; site = record d.site { version = version } })
 IsDraft-version d version draft good =
-    let first = eqb-true d.stage 0 (stands d (version_item version) good) in
+    let first = eqb-true d.stage 0 (stands d (item_of_version version) good) in
     record {
-      version = (in_range d (version_item version) good 0 (version_number version) 1 latest_version (omega arith) refl).1;
+      version = (in_range d (item_of_version version) good 0 (version_number version) 1 latest_version (omega arith) refl).1;
       types = TypesFit-none d.site.version version d.site.types (draft.order.no_types (omega arith)) draft.types;
       points = draft.points;
       obstacles = draft.obstacles;
@@ -144,16 +140,12 @@ IsDraft-mode d m mode draft good =
       };
     }
 
--- the item of a cable type
-abbrev type_item : CableType → RawItem
-type_item t = AType (Some (pos t.capacity)) (Some (pos t.price)) (Some (pos t.loss))
-
 -- a cable type in range
-IsCableType-good : (d : Draft) (t : CableType) → IsGood d (type_item t) → FitsVersion d (type_item t) → IsCableType d.site.version t
+IsCableType-good : (d : Draft) (t : CableType) → IsGood d (item_of_type t) → FitsVersion d (item_of_type t) → IsCableType d.site.version t
 IsCableType-good d t good fits =
-    let capacity = in_range d (type_item t) good 0 t.capacity 1 10000 (omega arith) refl in
-    let price = in_range d (type_item t) good 1 t.price 0 1000000 (omega arith) refl in
-    let loss = in_range d (type_item t) good 2 t.loss 0 100 (omega arith) refl in
+    let capacity = in_range d (item_of_type t) good 0 t.capacity 1 10000 (omega arith) refl in
+    let price = in_range d (item_of_type t) good 1 t.price 0 1000000 (omega arith) refl in
+    let loss = in_range d (item_of_type t) good 2 t.loss 0 100 (omega arith) refl in
     record {
       some_capacity = capacity.0;
       capacity = capacity.1;
@@ -163,9 +155,9 @@ IsCableType-good d t good fits =
     }
 
 -- a cable type
-IsDraft-type : (d : Draft) (t : CableType) → IsDraft d → IsGood d (type_item t) → FitsVersion d (type_item t) → IsDraft (record d { site = record d.site { types = d.site.types ++ t ∷ [] } })
+pub IsDraft-type : (d : Draft) (t : CableType) → IsDraft d → IsGood d (item_of_type t) → FitsVersion d (item_of_type t) → IsDraft (record d { site = record d.site { types = d.site.types ++ t ∷ [] } })
 IsDraft-type d t draft good fits =
-    let at = eqb-true d.stage 2 (stands d (type_item t) good) in
+    let at = eqb-true d.stage 2 (stands d (item_of_type t) good) in
     let few : length d.site.types < 8 = ⊎_elim (λ (l : length d.site.types < 8). l) (λ (l : 8 ≤ length d.site.types). absurd (good TooMany l)) (cases_lt (length d.site.types) 8) in
     let more = length_push d.site.types t in
     record {
@@ -182,10 +174,6 @@ IsDraft-type d t draft good fits =
       };
     }
 
--- the item of a point
-abbrev point_item : Point → RawItem
-point_item p = APoint p.name (Some p.at.x) (Some p.at.y) (raw_kind p.kind)
-
 -- a kind in range
 IsKind-good : (d : Draft) (name : List ℕ) (x y : Option ℤ) (kind : Kind) → IsGood d (APoint name x y (raw_kind kind)) → IsKind kind
 IsKind-good d name x y (Turbine power) good = in_range d (APoint name x y (raw_kind (Turbine power))) good 2 power 1 1000 (omega arith) refl
@@ -196,7 +184,7 @@ IsKind-good d name x y (Substation feeders power) good = (
 IsKind-good d name x y Bend good = tt
 
 -- the points fit with a good one more
-PointsFit-push : (d : Draft) (p : Point) → PointsFit d.site.points → IsGood d (point_item p) → PointsFit (d.site.points ++ p ∷ [])
+PointsFit-push : (d : Draft) (p : Point) → PointsFit d.site.points → IsGood d (item_of_point p) → PointsFit (d.site.points ++ p ∷ [])
 PointsFit-push d p fit good =
     let points = d.site.points in
     let few : length points < 256 = ⊎_elim (λ (l : length points < 256). l) (λ (l : 256 ≤ length points). absurd (good TooMany l)) (cases_lt (length points) 256) in
@@ -230,9 +218,9 @@ PairsFit-none points others pairs none fit = record {
 }
 
 -- a point
-IsDraft-point : (d : Draft) (p : Point) → IsDraft d → IsGood d (point_item p) → IsDraft (record d { stage = 3; site = record d.site { points = d.site.points ++ p ∷ [] } })
+pub IsDraft-point : (d : Draft) (p : Point) → IsDraft d → IsGood d (item_of_point p) → IsDraft (record d { stage = 3; site = record d.site { points = d.site.points ++ p ∷ [] } })
 IsDraft-point d p draft good =
-    let at = settled_at d 3 (stands d (point_item p) good) in
+    let at = settled_at d 3 (stands d (item_of_point p) good) in
     record {
       version = draft.version;
       types = draft.types;
@@ -248,7 +236,7 @@ IsDraft-point d p draft good =
     }
 
 -- an obstacle whose corners are to come
-IsDraft-obstacle : (d : Draft) (n : ℕ) → IsDraft d → IsGood d (AnObstacle (Some (pos n))) → IsDraft (record d { stage = 4; corners = []; missing = n })
+pub IsDraft-obstacle : (d : Draft) (n : ℕ) → IsDraft d → IsGood d (AnObstacle (Some (pos n))) → IsDraft (record d { stage = 4; corners = []; missing = n })
 IsDraft-obstacle d n draft good =
     let at = settled_at d 4 (stands d (AnObstacle (Some (pos n))) good) in
     let range = in_range d (AnObstacle (Some (pos n))) good 0 n 3 1024 (omega arith) refl in
@@ -275,12 +263,8 @@ IsDraft-obstacle d n draft good =
       };
     }
 
--- the item of a corner
-abbrev corner_item : Place → RawItem
-corner_item corner = ACorner (Some corner.x) (Some corner.y)
-
 -- the last corner of an obstacle, which is complete with it
-ObstaclesFit-complete : (d : Draft) (corner : Place) → d.missing ≡ 1 → IsDraft d → IsGood d (corner_item corner) → ObstaclesFit d.site.points (d.site.obstacles ++ (d.corners ++ corner ∷ []) ∷ []) [] 0
+ObstaclesFit-complete : (d : Draft) (corner : Place) → d.missing ≡ 1 → IsDraft d → IsGood d (item_of_corner corner) → ObstaclesFit d.site.points (d.site.obstacles ++ (d.corners ++ corner ∷ []) ∷ []) [] 0
 ObstaclesFit-complete d corner last draft good =
     let old = draft.obstacles in
     let whole = d.corners ++ corner ∷ [] in
@@ -328,7 +312,7 @@ StageFits-obstacles stage site other at types pairs fits = record {
 }
 
 -- a corner, where this many are missing
-IsDraft-corner : (d : Draft) (corner : Place) (missing : ℕ) → d.missing ≡ missing → IsDraft d → IsGood d (corner_item corner) → IsDraft (with_corner d corner missing)
+pub IsDraft-corner : (d : Draft) (corner : Place) (missing : ℕ) → d.missing ≡ missing → IsDraft d → IsGood d (item_of_corner corner) → IsDraft (with_corner d corner missing)
 IsDraft-corner d corner zero e draft good = draft
 IsDraft-corner d corner (suc zero) e draft good = record {
   version = draft.version;
@@ -336,7 +320,7 @@ IsDraft-corner d corner (suc zero) e draft good = record {
   points = draft.points;
   obstacles = ObstaclesFit-complete d corner e draft good;
   pairs = draft.pairs;
-  order = StageFits-obstacles d.stage d.site (record d.site { obstacles = d.site.obstacles ++ (d.corners ++ corner ∷ []) ∷ [] }) (eqb-true d.stage 4 (and_parts _ _ (stands d (corner_item corner) good)).0) refl refl draft.order;
+  order = StageFits-obstacles d.stage d.site (record d.site { obstacles = d.site.obstacles ++ (d.corners ++ corner ∷ []) ∷ [] }) (eqb-true d.stage 4 (and_parts _ _ (stands d (item_of_corner corner) good)).0) refl refl draft.order;
 }
 IsDraft-corner d corner (suc (suc n)) e draft good = record {
   version = draft.version;
@@ -346,10 +330,6 @@ IsDraft-corner d corner (suc (suc n)) e draft good = record {
   pairs = draft.pairs;
   order = draft.order;
 }
-
--- the item of a pair rule
-abbrev pair_item : Site → Pair → RawItem
-pair_item s p = APair (name_of s p.a) (name_of s p.b) (raw_rule p.rule)
 
 -- a rule in range
 IsPairRule-good : (d : Draft) (a b : List ℕ) (rule : PairRule) → IsGood d (APair a b (raw_rule rule)) → IsPairRule rule
@@ -371,9 +351,9 @@ IsOnNames-joined s p q h =
     (joins_cases q.a q.b p h)
 
 -- a pair rule
-IsDraft-pair : (d : Draft) (p : Pair) → p.a < length d.site.points → p.b < length d.site.points → IsDraft d → IsGood d (pair_item d.site p) → IsDraft (record d { stage = 5; site = record d.site { pairs = d.site.pairs ++ p ∷ [] } })
+pub IsDraft-pair : (d : Draft) (p : Pair) → p.a < length d.site.points → p.b < length d.site.points → IsDraft d → IsGood d (item_of_pair d.site p) → IsDraft (record d { stage = 5; site = record d.site { pairs = d.site.pairs ++ p ∷ [] } })
 IsDraft-pair d p first second draft good =
-    let at = settled_at d 5 (stands d (pair_item d.site p) good) in
+    let at = settled_at d 5 (stands d (item_of_pair d.site p) good) in
     let is_pair : IsPair d.site.points p = record {
       first = first;
       second = second;
@@ -423,22 +403,22 @@ IsDraft-adds d e (AVersion v) draft fits good (version, said, becomes) =
     subst IsDraft (sym becomes) (IsDraft-version d version draft (subst (λ (i : RawItem). IsGood d i) (ap AVersion said) good))
 IsDraft-adds d e (AMode m) draft fits good (mode, said, becomes) = subst IsDraft (sym becomes) (IsDraft-mode d m mode draft good)
 IsDraft-adds d e (AType capacity price loss) draft fits good (t, c, p, l, becomes) =
-    let same : AType capacity price loss ≡ type_item t = cc in
+    let same : AType capacity price loss ≡ item_of_type t = cc in
     subst IsDraft (sym becomes) (IsDraft-type d t draft (subst (λ (i : RawItem). IsGood d i) same good) (subst (λ (i : RawItem). FitsVersion d i) same fits))
 IsDraft-adds d e (APoint name x y kind) draft fits good (p, named, at, standing, becomes) =
     let x_is = at.x_is in
     let y_is = at.y_is in
-    let same : APoint name x y kind ≡ point_item p = cc in
+    let same : APoint name x y kind ≡ item_of_point p = cc in
     subst IsDraft (sym becomes) (IsDraft-point d p draft (subst (λ (i : RawItem). IsGood d i) same good))
 IsDraft-adds d e (AnObstacle k) draft fits good (n, said, becomes) =
     subst IsDraft (sym becomes) (IsDraft-obstacle d n draft (subst (λ (i : RawItem). IsGood d i) (ap AnObstacle said) good))
 IsDraft-adds d e (ACorner x y) draft fits good (corner, at, becomes) =
     let x_is = at.x_is in
     let y_is = at.y_is in
-    let same : ACorner x y ≡ corner_item corner = cc in
+    let same : ACorner x y ≡ item_of_corner corner = cc in
     subst IsDraft (sym becomes) (IsDraft-corner d corner d.missing refl draft (subst (λ (i : RawItem). IsGood d i) same good))
 IsDraft-adds d e (APair a b rule) draft fits good (p, first, second, first_name, second_name, ruled, becomes) =
-    let same : APair a b rule ≡ pair_item d.site p = cc in
+    let same : APair a b rule ≡ item_of_pair d.site p = cc in
     subst IsDraft (sym becomes) (IsDraft-pair d p first second draft (subst (λ (i : RawItem). IsGood d i) same good))
 IsDraft-adds d e TheEnd draft fits good becomes = subst IsDraft (sym becomes) (IsDraft-end d draft good)
 IsDraft-adds d e Misshapen draft fits good adds = absurd adds

@@ -1,3 +1,7 @@
+pub mod Types
+pub mod Names
+pub mod Points
+pub mod Codes
 pub mod Ranges
 pub mod Drafts
 pub mod Passed

@@ -9,7 +9,8 @@ use Rattle.cable_definitions.specs.declared.site.Pair.{Pair}
 use Rattle.cable_definitions.specs.Naming.{IsName}
 use Rattle.cable_definitions.specs.Plane.{SamePlace, IsOutside}
 use Rattle.cable_definitions.specs.Site.{Site, version_number, latest_version, IsCableType, IsKind, IsObstacle, IsPair, joins}
-use Rattle.cable_definitions.specs.Items.{Draft, RawItem, AType}
+use Rattle.cable_definitions.specs.Text.{name_of}
+use Rattle.cable_definitions.specs.Items.{Draft, RawItem, AVersion, AType, APoint, ACorner, APair, raw_kind, raw_rule}
 
 -- at most 8 types, each in range
 pub record TypesFit (version : Version) (types : List CableType) : Type 0 where
@@ -58,3 +59,23 @@ pub record IsDraft (d : Draft) : Type 0 where
 abbrev pub FitsVersion : Draft → RawItem → Type 0
 FitsVersion d (AType capacity price loss) = d.site.version ≡ One → loss ≡ Some (pos 0)
 FitsVersion d item = Unit {0}
+
+-- the item of a version
+abbrev pub item_of_version : Version → RawItem
+item_of_version version = AVersion (Some (pos (version_number version)))
+
+-- the item of a cable type
+abbrev pub item_of_type : CableType → RawItem
+item_of_type t = AType (Some (pos t.capacity)) (Some (pos t.price)) (Some (pos t.loss))
+
+-- the item of a point
+abbrev pub item_of_point : Point → RawItem
+item_of_point p = APoint p.name (Some p.at.x) (Some p.at.y) (raw_kind p.kind)
+
+-- the item of a corner
+abbrev pub item_of_corner : Place → RawItem
+item_of_corner corner = ACorner (Some corner.x) (Some corner.y)
+
+-- the item of a pair rule
+abbrev pub item_of_pair : Site → Pair → RawItem
+item_of_pair s p = APair (name_of s p.a) (name_of s p.b) (raw_rule p.rule)

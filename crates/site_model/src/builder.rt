@@ -1,9 +1,12 @@
-ghost use Rattle.std.specs.Prelude.{◌≡◌, ◌↔◌, ◌≤◌, IsTrue, OnOk, OnErr, IfOk, MatchResult, MatchOption, pos, Some, [], ◌∷◌, All, Any};
+ghost use Rattle.std.specs.Prelude.{ℤ, ◌==◌, IfErr, ◌&&◌, ◌≡◌, ◌↔◌, ◌≤◌, IsTrue, OnOk, OnErr, IfOk, MatchResult, MatchOption, pos, Some, [], ◌∷◌, All, Any, nat_le, length, ◌<◌, slice_get};
+ghost use Rattle.cable_definitions.specs.Text.{name_from};
+ghost use Rattle.site_model.specs.Stages.{stage_number};
 ghost use Rattle.cable_definitions.specs.declared.site.SiteCode.{SiteCode};
 ghost use Rattle.cable_definitions.specs.declared.site.Version.{Version};
 ghost use Rattle.cable_definitions.specs.Coordinate.{IsCoordinate};
 ghost use Rattle.cable_definitions.specs.Site.{version_number, latest_version, IsCableType, IsKind, IsPairRule};
-ghost use Rattle.cable_definitions.specs.Items.{IsGood, IsFirstCode, Adds, IsWithin, IsAt, within, coordinate, kind_fields, rule_fields, fields_of, raw_kind, raw_rule, AType};
+ghost use Rattle.site_model.specs.Drafts.{item_of_type, item_of_point};
+ghost use Rattle.cable_definitions.specs.Items.{is_settled, Stray, IsGood, IsFirstCode, Adds, IsWithin, IsAt, within, coordinate, kind_fields, rule_fields, fields_of, raw_kind, raw_rule, AType};
 ghost use Rattle.site_model.specs.Building.{type_item, point_item, pair_item, kind_item, rule_item};
 
 use crate::Site;
@@ -27,7 +30,7 @@ pub enum RawKind {
 }
 
 /// The lists of a site, in file order: the one that the last item stands in.
-#[derive(Clone, Copy, Debug, PartialEq, Eq)]
+#[derive(Clone, Copy, Debug, PartialEq, Eq, PartialOrd, Ord)]
 enum Stage {
     Types,
     Points,
@@ -47,6 +50,15 @@ pub struct SiteBuilder {
     pairs: Vec<Pair>,
     corners: Vec<Place>,
     missing: usize,
+}
+
+impl Stage {
+    /// Whether this stage is the other one or comes before it.
+    fn is_at_most(self, most: Stage) -> bool
+        ensures { result ≡ nat_le (stage_number self) (stage_number most) }
+    {
+        self <= most
+    }
 }
 
 impl Model for SiteBuilder {
@@ -82,7 +94,192 @@ impl SiteBuilder {
             missing: 0,
         })
     }
+
+    /// Adds a cable type. Its loss is given in version 2 alone.
+    pub fn add_type(
+        &mut self,
+        capacity: i128,
+        price: i128,
+        loss: Option<i128>,
+    ) -> Result<(), BuildFault>
+        ensures good { OnOk result (IsGood self.old (type_item self.old.site.version capacity price loss)) }
+        ensures adds { OnOk result (Adds self.old (type_item self.old.site.version capacity price loss) self.new) }
+        ensures refused { (code : SiteCode) → ((result ≡ Err (BuildFault.Refused code)) ↔ IsFirstCode self.old (type_item self.old.site.version capacity price loss) code) }
+        ensures memory { result ≡ Err BuildFault.Memory → IsGood self.old (type_item self.old.site.version capacity price loss) }
+        ensures unchanged { OnErr result (self.new ≡ self.old) }
+    {
+        let cable_type = match self.new_type(capacity, price, loss) {
+            Ok(cable_type) => cable_type,
+            Err(code) => return Err(BuildFault::Refused(code)),
+        };
+        if self.types.push(cable_type).is_err() {
+            return Err(BuildFault::Memory);
+        }
+        Ok(())
+    }
+
+    /// The cable type of an item, or the first code that it breaks.
+    fn new_type(
+        &self,
+        capacity: i128,
+        price: i128,
+        loss: Option<i128>,
+    ) -> Result<CableType, SiteCode>
+        ensures good { OnOk result (IsGood self.now (type_item self.now.site.version capacity price loss)) }
+        ensures item { IfOk result (λ t. type_item self.now.site.version capacity price loss ≡ item_of_type t) }
+        ensures code { IfErr result (λ code. IsFirstCode self.now (type_item self.now.site.version capacity price loss) code) }
+    {
+        let Some(loss) = told_loss(self.version, loss) else {
+            return Err(SiteCode::Form);
+        };
+        if !self.takes_types() {
+            return Err(SiteCode::Form);
+        }
+        let Some(cable_type) = type_of(capacity, price, loss) else {
+            return Err(SiteCode::Range);
+        };
+        if self.types.len() >= 8 {
+            return Err(SiteCode::TooMany);
+        }
+        Ok(cable_type)
+    }
+
+    /// Adds a point.
+    pub fn add_point(
+        &mut self,
+        name: &[u8],
+        x: i128,
+        y: i128,
+        kind: RawKind,
+    ) -> Result<(), BuildFault>
+        ensures good { OnOk result (IsGood self.old (point_item name.now x y kind)) }
+        ensures adds { OnOk result (Adds self.old (point_item name.now x y kind) self.new) }
+        ensures refused { (code : SiteCode) → ((result ≡ Err (BuildFault.Refused code)) ↔ IsFirstCode self.old (point_item name.now x y kind) code) }
+        ensures memory { result ≡ Err BuildFault.Memory → IsGood self.old (point_item name.now x y kind) }
+        ensures unchanged { OnErr result (self.new ≡ self.old) }
+    {
+        let point = match self.new_point(name, x, y, kind) {
+            Ok(point) => point,
+            Err(code) => return Err(BuildFault::Refused(code)),
+        };
+        if self.points.push(point).is_err() {
+            return Err(BuildFault::Memory);
+        }
+        self.stage = Stage::Points;
+        Ok(())
+    }
+
+    /// The point of an item, or the first code that it breaks.
+    fn new_point(&self, name: &[u8], x: i128, y: i128, kind: RawKind) -> Result<Point, SiteCode>
+        ensures good { OnOk result (IsGood self.now (point_item name.now x y kind)) }
+        ensures item { IfOk result (λ p. point_item name.now x y kind ≡ item_of_point p) }
+        ensures code { IfErr result (λ code. IsFirstCode self.now (point_item name.now x y kind) code) }
+    {
+        if !self.takes_points() {
+            return Err(SiteCode::Form);
+        }
+        let Some(at) = place_of(x, y) else {
+            return Err(SiteCode::Range);
+        };
+        let Some(kind) = kind_of(kind) else {
+            return Err(SiteCode::Range);
+        };
+        let Some(own_name) = Name::new(name) else {
+            return Err(SiteCode::BadName);
+        };
+        if has_name(self.points.as_slice(), name) {
+            return Err(SiteCode::SameName);
+        }
+        if has_place(self.points.as_slice(), at) {
+            return Err(SiteCode::SamePlace);
+        }
+        if self.points.len() >= 256 {
+            return Err(SiteCode::TooMany);
+        }
+        Ok(Point {
+            name: own_name,
+            at,
+            kind,
+        })
+    }
+
+    /// Whether a cable type may stand here.
+    fn takes_types(&self) -> bool
+        ensures { result ≡ (self.now.stage == 2) }
+    {
+        self.stage == Stage::Types
+    }
+
+    /// Whether a point may stand here.
+    fn takes_points(&self) -> bool
+        ensures { result ≡ (is_settled self.now && nat_le self.now.stage 3) }
+    {
+        self.is_settled() && self.stage.is_at_most(Stage::Points)
+    }
+
+    /// Whether some type stands and no corner is missing.
+    fn is_settled(&self) -> bool
+        ensures { result ≡ is_settled self.now }
+    {
+        !self.types.is_empty() && self.missing == 0
+    }
 }
+
+/// Whether the point has this name.
+fn is_named(point: &Point, name: &[u8]) -> bool
+    ensures { IsTrue result ↔ (point.now.name ≡ name.now) }
+{
+    point.name.as_slice() == name
+}
+
+/// The number of the point with this name.
+fn number_of(points: &[Point], name: &[u8]) -> Option<u32>
+    requires { length points.now ≤ 256 }
+    ensures { MatchOption result
+        (¬ Any (λ p. p.name ≡ name.now) points.now)
+        (λ number. (number < length points.now) × (name_from (slice_get points.now number) ≡ name.now)) }
+{
+    for (number, point) in points.iter().enumerate() {
+        if is_named(point, name) {
+            return Some(number as u32);
+        }
+    }
+    None
+}
+
+/// Whether some point has this name.
+fn has_name(points: &[Point], name: &[u8]) -> bool
+    requires { length points.now ≤ 256 }
+    ensures { IsTrue result ↔ Any (λ p. p.name ≡ name.now) points.now }
+{
+    number_of(points, name).is_some()
+}
+
+/// Whether some point stands at this place.
+fn has_place(points: &[Point], at: Place) -> bool
+    ensures { IsTrue result ↔ Any (λ p. IsAt (Some at.x) (Some at.y) p.at) points.now }
+{
+    for point in points {
+        if point.at == at {
+            return true;
+        }
+    }
+    false
+}
+
+/// The loss of a cable type as a version tells it: none in version 1, and some in version 2.
+fn told_loss(version: Version, loss: Option<i128>) -> Option<i128>
+    ensures { MatchOption result
+        ((capacity price : ℤ) → type_item version capacity price loss ≡ Stray)
+        (λ told. (capacity price : ℤ) → type_item version capacity price loss ≡ AType (Some capacity) (Some price) (Some told)) }
+{
+    match (version, loss) {
+        (Version::One, None) => Some(0),
+        (Version::Two, Some(loss)) => Some(loss),
+        (Version::One, Some(_)) | (Version::Two, None) => None,
+    }
+}
+
 /// The number, where it is one from `least` to `most`.
 fn number_within(value: i128, least: u64, most: u64) -> Option<u64>
     ensures { MatchOption result

@@ -1,0 +1,124 @@
+-- The first code of an item, one code after another.
+use Rattle.site_model.specs.declared.fault.BuildFault.{BuildFault}
+use Rattle.site_model.specs.declared.fault.BuildFault.TheVariants.{Refused}
+use Rattle.std.proofs.Common.{◌≡◌, ◌↔◌, Result, Err, ℕ, zero, suc, ◌<◌, ◌≤◌, ⊎_elim, List, [], ◌∷◌, length, get_or, Option, Some, None, IsTrue, ℤ, pos, neg_ℤ, ◌≤ℤ◌, refl, sym, ap, ◌∙◌, subst, arith}
+use Rattle.std.specs.Prelude.{All, IsSome}
+use Rattle.std.proofs.lemmas.Bool.{cases_lt}
+use Rattle.std.proofs.lemmas.List.Elements.{All-nil, All-cons}
+use Rattle.cable_definitions.specs.declared.site.SiteCode.{SiteCode}
+use Rattle.cable_definitions.specs.declared.site.SiteCode.TheVariants.{TooLong, Form, Shape, Range, BadName, SameName, SamePlace, UnknownName, SamePair, InObstacle, TooMany}
+use Rattle.cable_definitions.specs.Items.{RawItem, Overlong, Draft, may_stand, is_readable, fields_of, Breaks, code_number, IsFirstCode, IsGood}
+
+-- the code of a number
+code_at : ℕ → SiteCode
+code_at zero = TooLong
+code_at (suc zero) = TooLong
+code_at (suc (suc zero)) = Form
+code_at (suc (suc (suc zero))) = Shape
+code_at (suc (suc (suc (suc zero)))) = Range
+code_at (suc (suc (suc (suc (suc zero))))) = BadName
+code_at (suc (suc (suc (suc (suc (suc zero)))))) = SameName
+code_at (suc (suc (suc (suc (suc (suc (suc zero))))))) = SamePlace
+code_at (suc (suc (suc (suc (suc (suc (suc (suc zero)))))))) = UnknownName
+code_at (suc (suc (suc (suc (suc (suc (suc (suc (suc zero))))))))) = SamePair
+code_at (suc (suc (suc (suc (suc (suc (suc (suc (suc (suc zero)))))))))) = InObstacle
+code_at (suc (suc (suc (suc (suc (suc (suc (suc (suc (suc (suc n))))))))))) = TooMany
+
+-- each code is that of its number
+code_at-code_number : (c : SiteCode) → code_at (code_number c) ≡ c
+unfolding code_at
+code_at-code_number TooLong = refl
+code_at-code_number Form = refl
+code_at-code_number Shape = refl
+code_at-code_number Range = refl
+code_at-code_number BadName = refl
+code_at-code_number SameName = refl
+code_at-code_number SamePlace = refl
+code_at-code_number UnknownName = refl
+code_at-code_number SamePair = refl
+code_at-code_number InObstacle = refl
+code_at-code_number TooMany = refl
+
+-- codes with one number are one
+same_code : (c other : SiteCode) → code_number c ≡ code_number other → c ≡ other
+same_code c other e = sym (code_at-code_number c) ∙ ap code_at e ∙ code_at-code_number other
+
+-- there are eleven codes
+code_number-below : (c : SiteCode) → code_number c < 12
+code_number-below TooLong = omega arith
+code_number-below Form = omega arith
+code_number-below Shape = omega arith
+code_number-below Range = omega arith
+code_number-below BadName = omega arith
+code_number-below SameName = omega arith
+code_number-below SamePlace = omega arith
+code_number-below UnknownName = omega arith
+code_number-below SamePair = omega arith
+code_number-below InObstacle = omega arith
+code_number-below TooMany = omega arith
+
+-- the item keeps each rule whose code is below this number
+abbrev pub KeepsBelow : Draft → RawItem → ℕ → Type 0
+KeepsBelow d item n = (other : SiteCode) → code_number other < n → ¬ (Breaks d item other)
+
+-- past a rule that it keeps too
+pub KeepsBelow-past : (d : Draft) (item : RawItem) (c : SiteCode) → KeepsBelow d item (code_number c) → ¬ (Breaks d item c) → KeepsBelow d item (suc (code_number c))
+KeepsBelow-past d item c before kept other l broken =
+    ⊎_elim (λ (lower : code_number other < code_number c). before other lower broken)
+    (λ (not_lower : code_number c ≤ code_number other). kept (subst (Breaks d item) (same_code other c (omega arith)) broken))
+    (cases_lt (code_number other) (code_number c))
+
+-- the code of the first rule that is broken
+pub IsFirstCode-at : (d : Draft) (item : RawItem) (c : SiteCode) → KeepsBelow d item (code_number c) → Breaks d item c → IsFirstCode d item c
+IsFirstCode-at d item c before broken = record { broken = broken; least = before }
+
+-- an item that keeps every rule is good
+pub IsGood-kept : (d : Draft) (item : RawItem) → KeepsBelow d item 12 → IsGood d item
+IsGood-kept d item kept c = kept c (code_number-below c)
+
+-- an item that is no overlong line keeps the first rule
+KeepsBelow-line : (d : Draft) (item : RawItem) → ¬ (item ≡ Overlong) → KeepsBelow d item 2
+KeepsBelow-line d item short = KeepsBelow-past d item TooLong (λ other l. absurd (none_below other l)) short where
+  none_below : (other : SiteCode) → ¬ (code_number other < 1)
+  none_below TooLong l = omega arith
+  none_below Form l = omega arith
+  none_below Shape l = omega arith
+  none_below Range l = omega arith
+  none_below BadName l = omega arith
+  none_below SameName l = omega arith
+  none_below SamePlace l = omega arith
+  none_below UnknownName l = omega arith
+  none_below SamePair l = omega arith
+  none_below InObstacle l = omega arith
+  none_below TooMany l = omega arith
+
+-- an item that may not stand
+pub IsFirstCode-form : (d : Draft) (item : RawItem) → ¬ (item ≡ Overlong) → ¬ (IsTrue (may_stand d item)) → IsFirstCode d item Form
+IsFirstCode-form d item short astray = IsFirstCode-at d item Form (KeepsBelow-line d item short) astray
+
+-- an item that may stand and whose numbers are all given keeps the first three rules
+pub KeepsBelow-shaped : (d : Draft) (item : RawItem) → ¬ (item ≡ Overlong) → IsTrue (may_stand d item) → IsTrue (is_readable item) → All (λ f. IsSome f.value) (fields_of item) → KeepsBelow d item 4
+KeepsBelow-shaped d item short stands readable given =
+    let standing = KeepsBelow-past d item Form (KeepsBelow-line d item short) (λ astray. astray stands) in
+    KeepsBelow-past d item Shape standing (λ misshapen. misshapen (readable, given))
+
+-- there is one first code
+pub IsFirstCode-unique : (d : Draft) (item : RawItem) (c other : SiteCode) → IsFirstCode d item c → IsFirstCode d item other → c ≡ other
+IsFirstCode-unique d item c other first second =
+    same_code c other (⊎_elim (λ (lower : code_number c < code_number other). absurd (second.least c lower first.broken))
+    (λ (not_lower : code_number other ≤ code_number c).
+    ⊎_elim (λ (higher : code_number other < code_number c). absurd (first.least other higher second.broken))
+    (λ (not_higher : code_number c ≤ code_number other). omega arith)
+    (cases_lt (code_number other) (code_number c)))
+    (cases_lt (code_number c) (code_number other)))
+
+-- a good item has no first code
+pub IsFirstCode-good : (d : Draft) (item : RawItem) (c : SiteCode) → IsGood d item → ¬ (IsFirstCode d item c)
+IsFirstCode-good d item c good first = good c first.broken
+
+-- a refusal by the first code says it, and no other
+pub refused_exactly : (d : Draft) (item : RawItem) (found : SiteCode) → IsFirstCode d item found → (code : SiteCode) → (◌≡◌ {A = Result (Unit {0}) BuildFault} (Err (Refused found)) (Err (Refused code))) ↔ IsFirstCode d item code
+refused_exactly d item found first code = (
+  λ e. let same : found ≡ code = cc in subst (IsFirstCode d item) same first,
+  λ other. ap (λ (c : SiteCode). Err (Refused c)) (IsFirstCode-unique d item found code first other),
+)
