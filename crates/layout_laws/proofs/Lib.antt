@@ -8,3 +8,7 @@ pub mod Walking
 pub mod Flow
 -- walks under the rules of legal layouts
 pub mod Ending
+-- the arcs of a layout
+pub mod Used
+-- loads out of sets of points, and into all substations
+pub mod Sets

@@ -3,4 +3,5 @@
 
 pub mod loads;
 pub mod order;
+pub mod uses;
 pub mod walks;

@@ -1,6 +1,7 @@
 //! The loads of cables.
 
-ghost use Rattle.std.specs.Prelude.{◌≡◌, ℕ, ◌+◌, ◌≤◌, List, IsTrue};
+ghost use Rattle.std.specs.Prelude.{◌≡◌, ℕ, ◌+◌, ◌<◌, ◌≤◌, List, length, All, AllPairs, IsTrue, ◌&&◌, not, if◌then◌else◌, sum_by};
+ghost use Rattle.std.specs.List.{enumerate_from};
 ghost use Rattle.cable_definitions.specs.declared.cable.Cable.{Cable};
 ghost use Rattle.cable_definitions.specs.declared.site.Kind.TheVariants.{Bend};
 ghost use Rattle.cable_definitions.specs.declared.site.Point.{Point};
@@ -8,6 +9,7 @@ ghost use Rattle.cable_definitions.specs.Site.{Site, IsValid};
 ghost use Rattle.cable_definitions.specs.Arcs.{IsPoint, kind_of, is_turbine, is_substation, power_of};
 ghost use Rattle.cable_definitions.specs.Walk.{passes, load, load_into};
 ghost use Rattle.cable_definitions.specs.Layout.{Starts, IsLegal};
+ghost use Rattle.cable_definitions.specs.Row.{is_member};
 ghost use Rattle.layout_laws.specs.Alike.{StartsDiffer};
 ghost use Rattle.layout_laws.specs.Visits.{WalksEnd};
 
@@ -33,4 +35,19 @@ pub fn loads_of_bends()
         → (t : ℕ) × (IsTrue (is_turbine (kind_of s t))) × (IsTrue (passes cables p t)) }
     ensures carries { (s : Site) (cables : List Cable) → IsValid s → IsLegal s cables
         → (p : ℕ) (point : Point) → IsPoint s p point → point.kind ≡ Bend → Starts cables p → 1 ≤ load s cables p }
+{}
+
+/// In a legal layout what the turbines of a set without substations feed in is at most what the cables bear that leave the set.
+pub fn loads_out_of_sets()
+    ensures { (s : Site) (cables : List Cable) (members : List ℕ) → IsLegal s cables → AllPairs (λ m n. m < n) members
+        → All (λ m. m < length s.points) members → All (λ m. ¬ (IsTrue (is_substation (kind_of s m)))) members
+        → sum_by (power_of s) members
+        ≤ sum_by (λ c. if is_member members c.from && not (is_member members c.to) then load s cables c.from else 0) cables }
+{}
+
+/// In a legal layout what comes to the substations is all that the turbines feed in.
+pub fn loads_into_substations()
+    ensures { (s : Site) (cables : List Cable) → IsLegal s cables
+        → sum_by (λ q. if is_substation (kind_of s q.0) then load_into s cables q.0 else 0) (enumerate_from 0 s.points)
+        ≡ sum_by (λ q. power_of s q.0) (enumerate_from 0 s.points) }
 {}

@@ -10,9 +10,10 @@ ghost use Rattle.cable_definitions.specs.Layout.{Starts, Keeps, KeepsRange, Keep
 ghost use Rattle.cable_definitions.specs.Part.{IsGrown, IsSettled, IsBlocked};
 ghost use Rattle.layout_laws.specs.Alike.{StartsDiffer, SameOuts, SameEnds};
 
-/// Two lists in which no start comes twice and whose cables out of each point are the same have one cost, keep the same rules, and are
-/// alike legal, grown, settled and blocked.
+/// Two lists whose cables out of each point are the same have the same walks; if no start comes twice in either of them, they have one
+/// cost, keep the same rules, and are alike legal, grown, settled and blocked.
 pub fn order_of_cables()
+    ensures ends { (xs ys : List Cable) → SameOuts xs ys → SameEnds xs ys }
     ensures rules { (s : Site) (xs ys : List Cable) → StartsDiffer xs → StartsDiffer ys → SameOuts xs ys
         → (rule : Rule) → ((i j : ℕ) → Keeps s xs rule i j) → (i j : ℕ) → Keeps s ys rule i j }
     ensures legal { (s : Site) (xs ys : List Cable) → StartsDiffer ys → SameOuts xs ys → IsLegal s xs → IsLegal s ys }

@@ -1,8 +1,8 @@
 -- Lists whose elements have a number as key: the first element of a key, and sums key by key.
-use Rattle.std.proofs.Common.{◌≡◌, ◌≢◌, ℤ, pos, ◌+ℤ◌, ℕ, zero, suc, ◌+◌, ◌<◌, ◌⊎◌, inl, inr, true, false, cond, eqb, List, [], ◌∷◌, ◌++◌, length, map, sum_by, find, is_some, option_map, Option, Some, None, slice_get, refl, ap, sym, ◌∙◌, arith, eq-eqb, ne_eqb}
+use Rattle.std.proofs.Common.{◌≡◌, ◌≢◌, ℤ, pos, ◌+ℤ◌, ℕ, zero, suc, ◌≤◌, add-one, ◌+◌, ◌<◌, ◌⊎◌, inl, inr, true, false, cond, eqb, List, [], ◌∷◌, ◌++◌, length, map, sum_by, find, is_some, option_map, Option, Some, None, slice_get, refl, ap, sym, ◌∙◌, arith, eq-eqb, ne_eqb}
 use Rattle.std.specs.Prelude.{◌==◌}
 use Rattle.std.specs.List.{range_with_len}
-use Rattle.std.proofs.lemmas.List.Sums.{sum_by-cons, get_or-le-sum_by}
+use Rattle.std.proofs.lemmas.List.Sums.{sum_by-cons, get_or-le-sum_by, sum_by-le-sum_by}
 use Rattle.std.proofs.lemmas.Option.{slice_get_within, get_or_from_slice_get}
 use Rattle.std.proofs.lemmas.Bool.Decides.{eqb_tells}
 use Rattle.std.proofs.lemmas.Int.{ints}
@@ -212,3 +212,37 @@ sum_int-keys key f n (x ∷ xs) d h =
     let all =
     sum_int-same (λ k. int_at f (first_at key (x ∷ xs) k)) (λ k. cond (eqb (key x) k) (f x) (pos 0) +ℤ int_at f (first_at key xs k)) keys (int_at-cons key f x xs d) in
     omega (arith, ints, sum_int-cons f x xs, tail, one, all, sum_int-plus (λ k. cond (eqb (key x) k) (f x) (pos 0)) (λ k. int_at f (first_at key xs k)) keys)
+
+-- a number is below all later ones, where each is below the next
+below_later : (m : ℕ) (ms : List ℕ) → ((i x y : ℕ) → slice_get (m ∷ ms) i ≡ Some x → slice_get (m ∷ ms) (suc i) ≡ Some y → x < y)
+    → (i x : ℕ) → slice_get ms i ≡ Some x → m < x
+below_later m [] a i x e = absurd (cc)
+below_later m (n ∷ ns) a zero x e = a 0 m x refl e
+below_later m (n ∷ ns) a (suc i) x e =
+    let first : m < n = a 0 m n refl refl in
+    let later : n < x = below_later n ns (λ i. a (suc i)) i x e in
+    omega arith
+
+ascending_differ : (ms : List ℕ) → ((i x y : ℕ) → slice_get ms i ≡ Some x → slice_get ms (suc i) ≡ Some y → x < y) → DifferentKeys (λ (m : ℕ). m) ms
+ascending_differ [] a i j x y e f h = absurd (cc)
+ascending_differ (m ∷ ms) a zero j x y e f h = absurd (omega arith)
+ascending_differ (m ∷ ms) a (suc i) zero x y e f h =
+    let l : m < x = below_later m ms a i x e in
+    let same : m ≡ y = cc in
+    λ q. omega arith
+ascending_differ (m ∷ ms) a (suc i) (suc j) x y e f h = ascending_differ ms (λ i. a (suc i)) i j x y e f (omega arith)
+
+-- ascending numbers differ
+pub DifferentKeys-ascending : (ms : List ℕ) → ((i m n : ℕ) → slice_get ms i ≡ Some m → slice_get ms (i + 1) ≡ Some n → m < n) → DifferentKeys (λ (m : ℕ). m) ms
+DifferentKeys-ascending ms a = ascending_differ ms (λ i x y e f. a i x y e (rw add-one f))
+
+-- the sum over different numbers below n is at most the sum over all numbers below n
+pub sum_by-le-range : (f : ℕ → ℕ) (n : ℕ) (ms : List ℕ) → DifferentKeys (λ (m : ℕ). m) ms → KeysBelow (λ (m : ℕ). m) n ms → sum_by f ms ≤ sum_by f (range_with_len 0 n)
+sum_by-le-range f n ms d b =
+    let e = sum_by-keys (λ (m : ℕ). m) f n ms d b in
+    let l = sum_by-le-sum_by (λ k. value_at f (first_at (λ (m : ℕ). m) ms k)) f (range_with_len 0 n) (λ k. each k (first_at (λ (m : ℕ). m) ms k) refl) in
+    omega (arith, e, l)
+  where
+    each : (k : ℕ) (o : Option ℕ) → first_at (λ (m : ℕ). m) ms k ≡ o → value_at f o ≤ f k
+    each k None e = omega arith
+    each k (Some m) e = let same : f m ≡ f k = ap f (first_at-key (λ (m : ℕ). m) ms k m e) in omega (arith, same)

@@ -1,6 +1,9 @@
-use Rattle.layout_laws.proofs.Alike.{Keeps-ordered, IsLegal-ordered, cost-ordered, IsGrown-ordered}
+use Rattle.layout_laws.proofs.Alike.{SameEnds-from_outs, Keeps-ordered, IsLegal-ordered, cost-ordered, IsGrown-ordered}
 use Rattle.layout_laws.proofs.Arcs.{IsSettled-ordered, IsBlocked-ordered}
 use Rattle.layout_laws.proofs.order.order_of_cables.Goals as goal
+
+pub returns-clause-ends : goal.returns-clause-ends
+returns-clause-ends c = SameEnds-from_outs
 
 pub returns-clause-rules : goal.returns-clause-rules
 returns-clause-rules c = Keeps-ordered
