@@ -1,0 +1,4 @@
+-- the words that the program is called with
+pub mod Words
+-- how a call of the program may end
+pub mod Ends
