@@ -1,15 +1,15 @@
 -- How a command may end, and what it leaves of its streams.
-use Rattle.std.specs.Prelude.{◌≡◌, ◌≢◌, ℕ, ◌⊎◌, List, map, Option, Some}
-use Rattle.std.specs.String.{string_bytes, String}
+use Rattle.std.specs.Prelude.{◌≡◌, ℕ, ◌⊎◌, List, Option, Some}
 use Rattle.cable_definitions.specs.declared.claim.Claim.{Claim}
 use Rattle.cable_definitions.specs.declared.claim.Claim.TheVariants.{Optimal, Gap, Partial, Infeasible}
 use Rattle.cable_definitions.specs.declared.command.Command.{Command}
+use Rattle.cable_definitions.specs.declared.command.Command.TheVariants.{Plan}
 use Rattle.cable_definitions.specs.declared.site.SiteCode.TheVariants.{Form}
 use Rattle.cable_definitions.specs.Site.{Site, IsValid}
 use Rattle.cable_definitions.specs.Document.{IsSiteText}
 use Rattle.cable_definitions.specs.Built.{IsBuiltSite, IsBuiltWords}
 use Rattle.cable_definitions.specs.Plan.{IsPlanned}
-use Rattle.cable_definitions.specs.Answers.{usage_note, site_note, read_fault_note, write_fault_note, memory_note}
+use Rattle.cable_definitions.specs.Answers.{usage_note, site_note}
 use Rattle.cable_text.specs.Stream.{Rose, Appends, AppendsPrefix}
 use Rattle.cable_program.specs.declared.ending.Ending.{Ending}
 use Rattle.cable_program.specs.declared.ending.Ending.TheVariants.{Done, Usage, SiteRefused, Gap as EndsInGap, Partial as EndsOpen, Infeasible as EndsInfeasible, DocumentRefused, ReadFault, WriteFault, Memory}
@@ -56,7 +56,7 @@ IsNoCommand words = (command : Command) → ¬ (IsBuiltWords words command)
 
 -- the words are `plan` and the budget n
 abbrev pub IsPlan : List (List ℕ) → ℕ → Type 0
-IsPlan words n = IsBuiltWords words (Command.Plan n 1)
+IsPlan words n = IsBuiltWords words (Plan n 1)
 
 -- the bytes are the lines of a valid site that is planned so far
 abbrev pub IsAccepted : List ℕ → Type 0

@@ -1,16 +1,10 @@
-ghost use Rattle.std.specs.Prelude.{◌≡◌, IfSome, IfNone, map};
+ghost use Rattle.std.specs.Prelude.{◌≡◌, IfSome, IfNone, ◌∷◌, []};
 ghost use Rattle.cable_definitions.specs.Built.{IsBuiltWords};
 ghost use Rattle.cable_program.specs.Ends.{IsNoCommand};
 ghost use Rattle.cable_program.specs.Words.{texts};
 
 use cable_definitions::command::Command;
 use cable_text::read_number;
-
-/// The least budget that is taken so far: as many nodes are always enough for four points.
-const LEAST_BUDGET: i128 = 8191;
-
-/// The greatest budget.
-const MOST_BUDGET: i128 = 50000;
 
 /// What the program is asked to do, where the words are a command that is built: so far the two words
 /// `plan N`, with a budget N from 8,191 to 50,000 nodes in its one spelling. It is `None` exactly where
@@ -22,5 +16,22 @@ pub fn words_of(words: &[String]) -> Option<Command>
     match words {
         [first, second] => plan_of(first.as_bytes(), second.as_bytes()),
         _ => None,
+    }
+}
+
+/// The plan that two words ask for.
+fn plan_of(first: &[u8], second: &[u8]) -> Option<Command>
+    ensures command { IfSome result (IsBuiltWords (first.now ∷ second.now ∷ [])) }
+    ensures none { IfNone result (IsNoCommand (first.now ∷ second.now ∷ [])) }
+{
+    if first != b"plan".as_slice() {
+        return None;
+    }
+    match read_number(second, 8191, 50000) {
+        Ok(budget) => Some(Command::Plan {
+            budget: budget as u32,
+            lanes: 1,
+        }),
+        Err(_) => None,
     }
 }
