@@ -96,6 +96,11 @@ PlanEnds n input out note WriteFault = (Faulted out ⊎ Faulted note) × PrintsP
 PlanEnds n input out note Memory = PrintsPart n input out
 PlanEnds n input out note ending = ⊥
 
+-- how a command ends that is built
+abbrev pub CommandEnds : Command → Stream → Stream → Stream → Ending → Type 0
+CommandEnds (Plan n lanes) input out note ending = PlanEnds n input out note ending
+CommandEnds command input out note ending = ⊥
+
 -- the claim that an ending stands for
 abbrev pub EndsWith : Ending → Claim → Type 0
 EndsWith Done claim = (cost : ℕ) × (claim ≡ Optimal cost)

@@ -2,3 +2,5 @@
 pub mod Words
 -- how a call of the program may end
 pub mod Ends
+-- what the steps of a plan give to one another
+pub mod Planning

@@ -4,6 +4,9 @@
 
 mod ending;
 mod notes;
+mod plan;
+mod run;
+mod stubs;
 mod words;
 
 use std::process::ExitCode;
