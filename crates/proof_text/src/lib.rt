@@ -1,2 +1,6 @@
-//! The lines of a document, read and written.
+//! The lines of a document: the budget, the layout and the claim, as they are written.
 #![tactic(auto)]
+
+mod write;
+
+pub use write::{write_budget, write_claim, write_layout};

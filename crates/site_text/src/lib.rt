@@ -7,4 +7,4 @@ mod words;
 mod write;
 
 pub use line::{Field, push_line};
-pub use write::write_site;
+pub use write::{name_of, write_site};

@@ -201,8 +201,8 @@ fn push_pair<O: Sink>(site: &Site, pair: Pair, out: &mut O) -> Result<(), Failed
     }
 }
 
-// The name of a point.
-fn name_of(points: &[Point], number: u32) -> &[u8]
+/// The name of a point, by its number.
+pub fn name_of(points: &[Point], number: u32) -> &[u8]
     requires { number < length points.now }
     ensures { result.now ≡ name_from (slice_get points.now number) }
 {

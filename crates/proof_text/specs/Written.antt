@@ -1,0 +1,25 @@
+-- What the writers of a document are given, and the text of a layout.
+use Rattle.std.specs.Prelude.{ℕ, ◌<◌, List, [], ◌∷◌, ◌++◌, length, map, codes}
+use Rattle.std.specs.List.{concat}
+use Rattle.std.specs.Fmt.{decimal}
+use Rattle.cable_definitions.specs.declared.cable.Cable.{Cable}
+use Rattle.cable_definitions.specs.declared.claim.Claim.{Claim}
+use Rattle.cable_definitions.specs.declared.claim.Claim.TheVariants.{Optimal, Gap, Partial, Infeasible}
+use Rattle.cable_definitions.specs.Site.{Site}
+use Rattle.cable_definitions.specs.Text.{line, cable_line}
+
+-- the ends of the cable are points of the site
+pub record IsCableOf (s : Site) (c : Cable) : Type 0 where
+  pub from : c.from < length s.points
+  pub to : c.to < length s.points
+
+-- a turbine that the claim names is a point of the site
+abbrev pub IsClaimOf : Site → Claim → Type 0
+IsClaimOf s (Optimal cost) = Unit {0}
+IsClaimOf s (Gap cost bound) = Unit {0}
+IsClaimOf s (Partial bound stuck) = stuck < length s.points
+IsClaimOf s Infeasible = Unit {0}
+
+-- the line with the number of cables, and the lines of the cables
+abbrev pub layout_text : Site → List Cable → List ℕ
+layout_text s cables = line (codes "layout" ∷ decimal (length cables) ∷ []) ++ concat (map (cable_line s) cables)
