@@ -45,9 +45,17 @@ pub fn write_layout<O: Sink>(site: &Site, layout: &Layout, out: &mut O) -> Resul
     ensures { Writes result (O.taken out.old) (O.taken out.new) (O.faults out.old)
         (O.faults out.new) (layout_text site.now layout.now) }
 {
-    let cables = layout.cables();
-    push_line(b"layout", &[count_of(cables.len() as u64)], out)?;
-    push_cables(site, cables, out)
+    push_header(layout, out)?;
+    push_cables(site, layout.cables(), out)
+}
+
+/// Appends the line `layout K` with the number of cables.
+fn push_header<O: Sink>(layout: &Layout, out: &mut O) -> Result<(), Failed>
+    ensures { Writes result (O.taken out.old) (O.taken out.new) (O.faults out.old)
+        (O.faults out.new) (line (codes "layout" ∷ decimal (length layout.now) ∷ [])) }
+{
+    let count = layout.cables().len() as u64;
+    push_line(b"layout", &[count_of(count)], out)
 }
 
 /// Appends a line for each cable.
@@ -100,7 +108,11 @@ fn push_claim<O: Sink>(site: &Site, claim: Claim, out: &mut O) -> Result<(), Fai
         Claim::Gap { cost, bound } => push_line(b"gap", &[count_of(cost), count_of(bound)], out),
         Claim::Partial { bound, stuck } => {
             let name = Field::Word(name_of(site.points(), stuck));
-            push_line(b"open", &[count_of(bound), Field::Word(b"stuck"), name], out)
+            push_line(
+                b"open",
+                &[count_of(bound), Field::Word(b"stuck"), name],
+                out,
+            )
         }
         Claim::Infeasible => push_line(b"infeasible", &[], out),
     }
