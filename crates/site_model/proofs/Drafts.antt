@@ -337,7 +337,7 @@ IsPairRule-good d a b (Charge amount) good = (in_range d (APair a b (raw_rule (C
 IsPairRule-good d a b Closed good = tt
 
 -- a pair that joins two points is on them, in either order
-joins_cases : (a b : ℕ) (p : Pair) → IsTrue (joins a b p) → ((p.a ≡ a) × (p.b ≡ b)) ⊎ ((p.a ≡ b) × (p.b ≡ a))
+pub joins_cases : (a b : ℕ) (p : Pair) → IsTrue (joins a b p) → ((p.a ≡ a) × (p.b ≡ b)) ⊎ ((p.a ≡ b) × (p.b ≡ a))
 joins_cases a b p h =
     ⊎_elim (λ (t : ((p.a == a) && (p.b == b)) ≡ true). let both = and_parts _ _ t in inl (eqb-true p.a a both.0, eqb-true p.b b both.1))
     (λ (t : ((p.a == b) && (p.b == a)) ≡ true). let both = and_parts _ _ t in inr (eqb-true p.a b both.0, eqb-true p.b a both.1))

@@ -29,3 +29,7 @@ pub Any-placed_same : (points others : List Point) (x y u v : Option ℤ) → po
 Any-placed_same points others x y u v same x_is y_is h =
     subst (λ (ps : List Point). Any (λ p. IsAt u v p.at) ps) same
     (subst (λ (w : Option ℤ). Any (λ p. IsAt u w p.at) points) y_is (subst (λ (w : Option ℤ). Any (λ p. IsAt w y p.at) points) x_is h))
+
+-- the number of a name among the same points
+pub numbered_same : (points others : List Point) (name : List ℕ) (k : ℕ) → points ≡ others → (k < length points) × (name_from (slice_get points k) ≡ name) → (k < length others) × (name_from (slice_get others k) ≡ name)
+numbered_same points others name k same h = subst (λ (ps : List Point). (k < length ps) × (name_from (slice_get ps k) ≡ name)) same h

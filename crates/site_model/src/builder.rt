@@ -1,12 +1,13 @@
-ghost use Rattle.std.specs.Prelude.{ℤ, ◌==◌, IfErr, ◌&&◌, ◌≡◌, ◌↔◌, ◌≤◌, IsTrue, OnOk, OnErr, IfOk, MatchResult, MatchOption, pos, Some, [], ◌∷◌, All, Any, nat_le, length, ◌<◌, slice_get};
+ghost use Rattle.std.specs.Prelude.{◌≢◌, ℤ, ◌==◌, IfErr, ◌&&◌, ◌≡◌, ◌↔◌, ◌≤◌, IsTrue, OnOk, OnErr, IfOk, MatchResult, MatchOption, pos, Some, [], ◌∷◌, All, Any, nat_le, length, ◌<◌, slice_get};
 ghost use Rattle.cable_definitions.specs.Text.{name_from};
 ghost use Rattle.site_model.specs.Stages.{stage_number};
 ghost use Rattle.cable_definitions.specs.declared.site.SiteCode.{SiteCode};
 ghost use Rattle.cable_definitions.specs.declared.site.Version.{Version};
+ghost use Rattle.cable_definitions.specs.Naming.{IsName};
 ghost use Rattle.cable_definitions.specs.Coordinate.{IsCoordinate};
-ghost use Rattle.cable_definitions.specs.Site.{version_number, latest_version, IsCableType, IsKind, IsPairRule};
-ghost use Rattle.site_model.specs.Drafts.{item_of_type, item_of_point};
-ghost use Rattle.cable_definitions.specs.Items.{is_settled, Stray, IsGood, IsFirstCode, Adds, IsWithin, IsAt, within, coordinate, kind_fields, rule_fields, fields_of, raw_kind, raw_rule, AType};
+ghost use Rattle.cable_definitions.specs.Site.{joins, version_number, latest_version, IsCableType, IsKind, IsPairRule};
+ghost use Rattle.site_model.specs.Drafts.{item_of_type, item_of_point, item_of_pair};
+ghost use Rattle.cable_definitions.specs.Items.{is_settled, Stray, TheEnd, IsGood, IsFirstCode, Adds, IsWithin, IsAt, within, coordinate, kind_fields, rule_fields, fields_of, raw_kind, raw_rule, AType};
 ghost use Rattle.site_model.specs.Building.{type_item, point_item, pair_item, kind_item, rule_item};
 
 use crate::Site;
@@ -203,6 +204,85 @@ impl SiteBuilder {
         })
     }
 
+    /// Adds a pair rule on the points of two names: a charge, or a closing where no amount is given.
+    pub fn add_pair(&mut self, a: &[u8], b: &[u8], amount: Option<i128>) -> Result<(), BuildFault>
+        ensures good { OnOk result (IsGood self.old (pair_item a.now b.now amount)) }
+        ensures adds { OnOk result (Adds self.old (pair_item a.now b.now amount) self.new) }
+        ensures refused { (code : SiteCode) → ((result ≡ Err (BuildFault.Refused code)) ↔ IsFirstCode self.old (pair_item a.now b.now amount) code) }
+        ensures memory { result ≡ Err BuildFault.Memory → IsGood self.old (pair_item a.now b.now amount) }
+        ensures unchanged { OnErr result (self.new ≡ self.old) }
+    {
+        let pair = match self.new_pair(a, b, amount) {
+            Ok(pair) => pair,
+            Err(code) => return Err(BuildFault::Refused(code)),
+        };
+        if self.pairs.push(pair).is_err() {
+            return Err(BuildFault::Memory);
+        }
+        self.stage = Stage::Pairs;
+        Ok(())
+    }
+
+    /// The pair rule of an item, or the first code that it breaks.
+    fn new_pair(&self, a: &[u8], b: &[u8], amount: Option<i128>) -> Result<Pair, SiteCode>
+        ensures good { OnOk result (IsGood self.now (pair_item a.now b.now amount)) }
+        ensures first { IfOk result (λ p. p.a < length self.now.site.points) }
+        ensures second { IfOk result (λ p. p.b < length self.now.site.points) }
+        ensures item { IfOk result (λ p. pair_item a.now b.now amount ≡ item_of_pair self.now.site p) }
+        ensures code { IfErr result (λ code. IsFirstCode self.now (pair_item a.now b.now amount) code) }
+    {
+        if !self.takes_pairs() {
+            return Err(SiteCode::Form);
+        }
+        let Some(rule) = rule_of(amount) else {
+            return Err(SiteCode::Range);
+        };
+        if !is_name(a) {
+            return Err(SiteCode::BadName);
+        }
+        if !is_name(b) {
+            return Err(SiteCode::BadName);
+        }
+        let Some(first) = number_of(self.points.as_slice(), a) else {
+            return Err(SiteCode::UnknownName);
+        };
+        let Some(second) = number_of(self.points.as_slice(), b) else {
+            return Err(SiteCode::UnknownName);
+        };
+        if first == second {
+            return Err(SiteCode::SamePair);
+        }
+        if has_pair(self.pairs.as_slice(), first, second) {
+            return Err(SiteCode::SamePair);
+        }
+        Ok(Pair {
+            a: first,
+            b: second,
+            rule,
+        })
+    }
+
+    /// The site, which is valid. It is refused with `Form` where no type stands or a corner is
+    /// missing, and it takes no memory.
+    pub fn build(self) -> Result<Site, BuildFault>
+        ensures good { OnOk result (IsGood self TheEnd) }
+        ensures site { IfOk result (λ site. site ≡ self.site) }
+        ensures refused { (code : SiteCode) → ((result ≡ Err (BuildFault.Refused code)) ↔ IsFirstCode self TheEnd code) }
+        ensures memory { result ≢ Err BuildFault.Memory }
+    {
+        if !self.takes_pairs() {
+            return Err(BuildFault::Refused(SiteCode::Form));
+        }
+        Ok(Site::new(
+            self.version,
+            self.mode,
+            self.types,
+            self.points,
+            self.obstacles,
+            self.pairs,
+        ))
+    }
+
     /// Whether a cable type may stand here.
     fn takes_types(&self) -> bool
         ensures { result ≡ (self.now.stage == 2) }
@@ -215,6 +295,13 @@ impl SiteBuilder {
         ensures { result ≡ (is_settled self.now && nat_le self.now.stage 3) }
     {
         self.is_settled() && self.stage.is_at_most(Stage::Points)
+    }
+
+    /// Whether a pair rule, or the end of the site, may stand here.
+    fn takes_pairs(&self) -> bool
+        ensures { result ≡ (is_settled self.now && nat_le self.now.stage 5) }
+    {
+        self.is_settled() && self.stage.is_at_most(Stage::Pairs)
     }
 
     /// Whether some type stands and no corner is missing.
@@ -253,6 +340,32 @@ fn has_name(points: &[Point], name: &[u8]) -> bool
     ensures { IsTrue result ↔ Any (λ p. p.name ≡ name.now) points.now }
 {
     number_of(points, name).is_some()
+}
+
+/// Whether the bytes are a name.
+fn is_name(bytes: &[u8]) -> bool
+    ensures { IsTrue result ↔ IsName bytes.now }
+{
+    Name::new(bytes).is_some()
+}
+
+/// Whether some pair rule is on these two points, in either order.
+fn has_pair(pairs: &[Pair], a: u32, b: u32) -> bool
+    ensures { IsTrue result ↔ Any (λ p. IsTrue (joins a b p)) pairs.now }
+{
+    for pair in pairs {
+        if is_on(pair, a, b) {
+            return true;
+        }
+    }
+    false
+}
+
+/// Whether the pair rule is on these two points, in either order.
+fn is_on(pair: &Pair, a: u32, b: u32) -> bool
+    ensures { result ≡ joins a b pair.now }
+{
+    (pair.a == a && pair.b == b) || (pair.a == b && pair.b == a)
 }
 
 /// Whether some point stands at this place.
