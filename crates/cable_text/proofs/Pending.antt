@@ -1,7 +1,7 @@
 -- The bytes that are pending.
-use Rattle.std.proofs.Common.{◌≡◌, ℕ, ◌+◌, ◌-◌, ◌<◌, ◌≤◌, List, [], ◌∷◌, ◌++◌, length, take, drop, get_or, slice_index, Option, Some, None, Result, Ok, Err, IfOk, refl, sym, ◌∙◌, ap, arith, append_assoc, not, ◌==◌, true, ◌≢◌, subst}
+use Rattle.std.proofs.Common.{◌≡◌, ℕ, ◌+◌, ◌-◌, ◌<◌, ◌≤◌, List, ◌∷◌, ◌++◌, length, take, drop, get_or, slice_index, Option, Some, None, Result, Ok, Err, IfOk, refl, sym, ◌∙◌, ap, arith, append_assoc, not, ◌==◌, true, ◌≢◌, subst}
 use Rattle.std.proofs.Math.Seq.{take-add}
-use Rattle.std.proofs.lemmas.List.{drop-take, drop-drop, take-append-le, take_all, take_at, take-append-drop, length-append, length-take-le, drop_more}
+use Rattle.std.proofs.lemmas.List.{drop-take, drop-drop, take_all, take_at, take-append-drop, length-append, length-take-le, drop_more}
 use Rattle.std.proofs.lemmas.List.Elements.{All-more, All-append}
 use Rattle.std.proofs.lemmas.Bool.Decides.{nat_tests}
 use Rattle.cable_definitions.specs.Text.{HasNoNewline, LongLine}

@@ -1,14 +1,15 @@
 -- Which words spell a number, and which number.
 use Prim.Native.Nat.{zero}
-use Rattle.std.proofs.Common.{◌≡◌, ◌≢◌, ℕ, ◌+◌, ◌-◌, ◌*◌, ◌/◌, ◌%◌, ◌^◌, ◌<◌, ◌≤◌, suc, ℤ, pos, negsuc, List, [], ◌∷◌, ◌++◌, length, map, drop, slice_index, get_or, EachIndex, refl, sym, ◌∙◌, ap, subst, append_assoc, arith, lit≤, inl, inr}
-use Rattle.std.specs.Prelude.{◌<ℤ◌, ◌≤ℤ◌}
+use Rattle.std.proofs.Common.{◌≡◌, ◌≢◌, ℕ, ◌+◌, ◌-◌, ◌*◌, ◌/◌, ◌%◌, ◌^◌, ◌<◌, ◌≤◌, suc, ℤ, pos, negsuc, List, [], ◌∷◌, ◌++◌, length, map, drop, slice_index, get_or, EachIndex, refl, sym, ◌∙◌, ap, subst, append_assoc, arith, lit≤, inl, inr, Result, Ok, Err, IfOk, IfErr}
+use Rattle.std.specs.Prelude.{◌≤ℤ◌}
 use Rattle.std.proofs.lemmas.Int.{ints}
 use Rattle.std.proofs.lemmas.List.{append-nil, length-map, get_or-map, at_drop_more}
 use Rattle.std.proofs.lemmas.List.Elements.{All-from_recursion}
-use Rattle.std.specs.List.{AllByRecursion}
 use Rattle.std.specs.Int.Digits.{digits_of, number_from_digits_after}
 use Rattle.std.proofs.lemmas.Int.Digits.{number_digits_of, all_below_base_digits_of, first_digits_of, length-digits_of_step}
 use Rattle.cable_definitions.specs.Text.{number}
+use Rattle.cable_text.specs.declared.number.NumberFault.{NumberFault}
+use Rattle.cable_text.specs.declared.number.NumberFault.TheVariants.{NotDecimal, Over}
 use Rattle.cable_text.specs.Number.{digit_bytes, numeral, spelling, IsDigit, IsNumeral, IsOutside, value_after}
 use Rattle.cable_text.proofs.Numerals.{digit_bytes-zero, digit_bytes-step, numeral-zero, numeral-digit_bytes, numeral-decimal, length-digit_bytes_step}
 
@@ -172,3 +173,19 @@ pub value_after-drop : (n : ℕ) (bytes : List ℕ) (i whole : ℕ) → i < leng
 value_after-drop n bytes i whole below e =
     let m : value_after n (drop i bytes) ≡ value_after n (get_or bytes i 0 ∷ drop (i + 1) bytes) = at_drop_more (value_after n) bytes i 0 below in
     omega (arith, m, value_after-ge (n * 10 + (get_or bytes i 0 - 48)) (drop (i + 1) bytes))
+
+-- a number within the range whose spelling is the word is what a reading of the word answers
+pub reads_exactly : (word : List ℕ) (least most z : ℤ) (r : Result ℤ NumberFault) → negsuc (10 ^ 64 - 2) ≤ℤ least → most ≤ℤ pos (10 ^ 64 - 1) → IfOk r (λ y. word ≡ number y) → IfOk r (λ y. (least ≤ℤ y) × (y ≤ℤ most)) → IfErr r (λ e. e ≡ NotDecimal → (y : ℤ) → word ≢ spelling y) → IfErr r (λ e. e ≡ Over → (y : ℤ) × (word ≡ spelling y) × IsOutside least most y) → word ≡ number z → least ≤ℤ z → z ≤ℤ most → r ≡ Ok z
+reads_exactly word least most z (Ok y) low high ok within not_decimal over e from to =
+    let f : spelling y ≡ spelling z = spelling-number y (omega (arith, ints, within.0)) (omega (arith, ints, within.1)) ∙ sym ok ∙ e ∙ sym (spelling-number z (omega (arith, ints)) (omega (arith, ints))) in
+    ap Ok (spelling-same y z f)
+reads_exactly word least most z (Err NotDecimal) low high ok within not_decimal over e from to =
+    absurd (not_decimal refl z (e ∙ sym (spelling-number z (omega (arith, ints)) (omega (arith, ints)))))
+reads_exactly word least most z (Err Over) low high ok within not_decimal over e from to =
+    let w = over refl in
+    let s : w.0 ≡ z = spelling-same w.0 z (sym w.1 ∙ e ∙ sym (spelling-number z (omega (arith, ints)) (omega (arith, ints)))) in
+    absurd (not_outside least most z from to (subst (IsOutside least most) s w.2))
+  where
+    not_outside : (a b y : ℤ) → a ≤ℤ y → y ≤ℤ b → IsOutside a b y → ⊥
+    not_outside a b y h k (inl p) = omega (arith, ints, p)
+    not_outside a b y h k (inr p) = omega (arith, ints, p)

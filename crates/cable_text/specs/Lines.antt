@@ -1,5 +1,5 @@
 -- Lines of the bytes of a source.
-use Rattle.std.specs.Prelude.{◌≡◌, ℕ, ◌+◌, ◌-◌, ◌^◌, ◌<◌, ◌≤◌, min, List, [], ◌∷◌, ◌++◌, length, slice_get, Option, Some, None, Result, Ok, Err}
+use Rattle.std.specs.Prelude.{◌≡◌, ℕ, ◌+◌, ◌-◌, ◌^◌, ◌<◌, ◌≤◌, min, List, ◌∷◌, ◌++◌, length, slice_get, Option, Some, None, Result, Ok, Err}
 use Rattle.cable_definitions.specs.Text.{Piece, Whole, LongLine, CutLine, NoLine, IsNext, HasNoNewline}
 use Rattle.cable_text.specs.Stream.{Rose, IsAtEnd}
 use Rattle.cable_text.specs.declared.fault.Line.{Line}

@@ -1,5 +1,5 @@
 -- The spelling of whole numbers of any size.
-use Rattle.std.specs.Prelude.{◌≡◌, ◌≢◌, ℕ, ◌+◌, ◌<◌, ◌≤◌, ◌-◌, ◌*◌, ◌⊎◌, ℤ, pos, negsuc, ◌<ℤ◌, ◌≤ℤ◌, List, [], ◌∷◌, map, length, slice_index, EachIndex, if◌then◌else◌, ◌==◌, ◌^◌}
+use Rattle.std.specs.Prelude.{◌≡◌, ◌≢◌, ℕ, ◌+◌, ◌<◌, ◌≤◌, ◌-◌, ◌*◌, ◌⊎◌, ℤ, pos, negsuc, ◌<ℤ◌, List, [], ◌∷◌, map, length, slice_index, EachIndex, if◌then◌else◌, ◌==◌, ◌^◌}
 use Rattle.std.specs.Int.Digits.{digits_of}
 use Rattle.cable_text.specs.declared.number.Spelled.{Spelled}
 use Rattle.cable_text.specs.declared.number.Spelled.TheVariants.{Value, Beyond, Nothing}

@@ -15,3 +15,6 @@ pub use memory::{MemorySink, MemorySource};
 pub use number::{NumberFault, push_number, read_number};
 pub use standard::{StdSink, StdSource};
 pub use stream::{Failed, Sink, Source};
+
+#[cfg(test)]
+mod tests;

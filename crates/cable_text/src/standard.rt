@@ -73,3 +73,6 @@ impl<W: Write> Sink for StdSink<W> {
         Ok(())
     }
 }
+
+#[cfg(test)]
+mod tests;

@@ -1,5 +1,5 @@
 -- One more byte that is no newline, and all of them.
-use Rattle.std.proofs.Common.{arith, ◌≢◌, get_or}
+use Rattle.std.proofs.Common.{arith}
 use Rattle.cable_text.proofs.Pending.{HasNoNewline-more, HasNoNewline-all}
 use Rattle.cable_text.proofs.buffer.newline_in.Goals as goal
 

@@ -1,5 +1,5 @@
 -- The bytes that were pulled stand behind those that are used.
-use Rattle.std.proofs.Common.{◌≡◌, ◌<◌, ◌≤◌, sym, arith}
+use Rattle.std.proofs.Common.{sym, arith}
 use Rattle.cable_text.proofs.Pending.{ahead-pull}
 use Rattle.cable_text.proofs.buffer.pull_behind.Goals as goal
 

@@ -1,5 +1,5 @@
 -- Ten times the value so far is above 2^127.
-use Rattle.std.proofs.Common.{◌<◌, arith}
+use Rattle.std.proofs.Common.{arith}
 use Rattle.cable_text.proofs.Reading.{value_after-drop}
 use Rattle.cable_text.proofs.number.digits_value.Goals as goal
 

@@ -1,5 +1,5 @@
 -- The digits that were put, or `-` and these, spell the value.
-use Rattle.std.proofs.Common.{◌≡◌, ◌<◌, ◌^◌, pos, ◌≤ℤ◌, ◌<ℤ◌, arith}
+use Rattle.std.proofs.Common.{pos, ◌≤ℤ◌, ◌<ℤ◌, arith}
 use Rattle.std.specs.Int.{w128}
 use Rattle.std.proofs.lemmas.Int.{ints, to_z-of_z}
 use Rattle.cable_text.proofs.Numerals.{natural_put, negative_put}

@@ -1,8 +1,7 @@
 -- A number of 128 bits is spelled as it is printed.
-use Rattle.std.proofs.Common.{◌≡◌, ap, ◌∙◌, arith, rules, FitsSigned}
+use Rattle.std.proofs.Common.{◌∙◌, arith, rules, FitsSigned}
 use Rattle.std.specs.Int.{w128}
 use Rattle.std.proofs.lemmas.Int.{ints, to_z-of_z}
-use Rattle.cable_definitions.specs.Text.{number}
 use Rattle.cable_text.proofs.Reading.{spelling-number}
 use Rattle.cable_text.proofs.number.read_number.Goals as goal
 

@@ -1,5 +1,5 @@
 -- Digits spell the number that they write, and other words without `-` spell nothing.
-use Rattle.std.proofs.Common.{◌≡◌, pos, ◌<◌, ◌≤◌, to_z, inr, sym, ap, ◌∙◌, arith}
+use Rattle.std.proofs.Common.{◌≡◌, pos, to_z, inr, sym, ap, ◌∙◌, arith}
 use Rattle.std.specs.Int.{w128}
 use Rattle.std.proofs.lemmas.Int.{ints}
 use Rattle.cable_text.specs.Number.{IsNumeral, spelling, value_after}

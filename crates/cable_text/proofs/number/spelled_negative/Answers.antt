@@ -1,5 +1,5 @@
 -- `-` and digits that don't begin with `0` spell a number below zero, and other words with `-` spell nothing.
-use Rattle.std.proofs.Common.{◌≡◌, negsuc, ◌-◌, ◌<◌, ◌≤◌, ◌-ℤ◌, to_z, of_z, inl, sym, ap, ◌∙◌, arith, rules}
+use Rattle.std.proofs.Common.{◌≡◌, negsuc, ◌-◌, ◌-ℤ◌, to_z, of_z, inl, sym, ap, ◌∙◌, arith, rules}
 use Rattle.std.specs.Int.{w128}
 use Rattle.std.proofs.lemmas.Int.{ints}
 use Rattle.cable_text.specs.Number.{IsNumeral, spelling, value_after}

@@ -1,5 +1,5 @@
 -- The bytes behind the line.
-use Rattle.std.proofs.Common.{◌≡◌, ◌+◌, ◌<◌, ◌≤◌, ◌-◌, length, ap, drop, ◌∙◌, arith, length-take}
+use Rattle.std.proofs.Common.{◌+◌, ◌<◌, ◌-◌, length, ap, drop, ◌∙◌, arith, length-take}
 use Rattle.cable_text.proofs.Pending.{pending_cut}
 use Rattle.cable_text.proofs.buffer.Buffer.cut.Goals as goal
 

@@ -1,5 +1,5 @@
 -- The place of the newline among the pending bytes.
-use Rattle.std.proofs.Common.{◌≡◌, ◌+◌, ◌-◌, ◌<◌, ◌≤◌, length, take, drop, ap, sym, ◌∙◌, arith, length-drop}
+use Rattle.std.proofs.Common.{◌+◌, drop, ap, sym, ◌∙◌, arith, length-drop}
 use Rattle.std.proofs.lemmas.List.{take_rest, get_or-drop}
 use Rattle.cable_text.proofs.Pending.{HasNoNewline-behind, HasNoNewline-whole, IsCut-at}
 use Rattle.cable_text.proofs.buffer.Buffer.cut_line.Goals as goal

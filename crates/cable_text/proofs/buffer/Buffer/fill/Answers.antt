@@ -1,5 +1,5 @@
 -- The bytes that were pulled stand behind those that were pending.
-use Rattle.std.proofs.Common.{◌≡◌, ◌+◌, ◌-◌, ◌<◌, ◌≤◌, length, take, drop, ap, sym, ◌∙◌, arith, length-drop, ◌++◌}
+use Rattle.std.proofs.Common.{◌≡◌, ◌+◌, ◌-◌, length, take, drop, ap, ◌∙◌, arith, length-drop, ◌++◌}
 use Rattle.std.proofs.lemmas.List.{take_at, take-append-le}
 use Rattle.cable_text.specs.Lines.{ahead}
 use Rattle.cable_text.proofs.buffer.Buffer.fill.Goals as goal

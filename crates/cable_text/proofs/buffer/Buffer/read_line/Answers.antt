@@ -1,5 +1,5 @@
 -- As many bytes as fit hold no newline.
-use Rattle.std.proofs.Common.{◌≡◌, ◌<◌, ◌≤◌, length, ap, arith}
+use Rattle.std.proofs.Common.{length, ap, arith}
 use Rattle.cable_text.proofs.Pending.{Finds-long}
 use Rattle.cable_text.proofs.buffer.Buffer.read_line.Goals as goal
 

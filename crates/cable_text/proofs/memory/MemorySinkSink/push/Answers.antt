@@ -1,5 +1,5 @@
 -- A first part of the bytes was taken.
-use Rattle.std.proofs.Common.{◌<◌, arith}
+use Rattle.std.proofs.Common.{arith}
 use Rattle.cable_text.proofs.Held.{Writes-part_taken}
 use Rattle.cable_text.proofs.memory.MemorySinkSink.push.Goals as goal
 

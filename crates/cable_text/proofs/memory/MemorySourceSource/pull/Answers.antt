@@ -1,5 +1,5 @@
 -- The piece that was copied stands at the front of the buffer.
-use Rattle.std.proofs.Common.{◌≡◌, ◌≤◌, drop, take, Some, ap, sym, ◌∙◌, arith}
+use Rattle.std.proofs.Common.{drop, Some, ap, sym, ◌∙◌, arith}
 use Rattle.std.proofs.lemmas.List.{drop-drop, take_rest}
 use Rattle.cable_text.proofs.Held.{piece_given}
 use Rattle.cable_text.proofs.memory.MemorySourceSource.pull.Goals as goal
