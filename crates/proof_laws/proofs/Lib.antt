@@ -1,0 +1,10 @@
+-- elements of lists at a place, and sums in which one element counts
+pub mod Lists
+-- the arcs that the cables of a layout lie on, and sums over arcs that are sums over cables
+pub mod Cables
+-- no two cables of a legal layout lie on incompatible arcs
+pub mod Compatible
+-- how many cables start and end in a point of a legal layout, what they carry, and how much a cable may carry
+pub mod Points
+-- each well-formed row holds of each legal layout
+pub mod RowsHold

@@ -1,2 +1,4 @@
 //! The laws of rows, weights and proof trees.
 #![tactic(auto)]
+
+pub mod rows;
