@@ -8,3 +8,5 @@ pub mod Compatible
 pub mod Points
 -- each well-formed row holds of each legal layout
 pub mod RowsHold
+-- what a legal layout chooses at each arc, and that the sum of these choices lies between the sums of extremes in its box
+pub mod Choices
