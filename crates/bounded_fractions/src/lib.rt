@@ -1,2 +1,11 @@
-//! Exact fractions whose numerator and denominator stay in range.
+//! Exact fractions in lowest terms whose numerator and denominator stay in range.
 #![tactic(auto)]
+
+mod divisor;
+mod fraction;
+mod wide;
+
+pub use fraction::{Fraction, FractionOverflow, Overflow};
+
+#[cfg(test)]
+mod tests;

@@ -10,5 +10,9 @@ pub mod Field
 pub mod Order
 -- finite sums and their exchange
 pub mod Sums
+-- quotients, products and sums that are reduced before they grow
+pub mod Reducing
 -- quotients of whole numbers and of rational numbers
 pub mod Quotient
+-- opposites, inverses and quotients by the signs
+pub mod Signs
