@@ -2,6 +2,10 @@
 pub mod First
 -- numbers of the site, and starts that come again
 pub mod Numbers
+-- the first cable out of each point, at hand
+pub mod Outgoing
+-- the loads of the cables out of all points
+pub mod Loads
 -- the order in which the cables of an arranged layout stand
 pub mod Order
 -- what a verdict says of a list of cables

@@ -4,7 +4,7 @@ ghost use Rattle.cable_definitions.specs.Walk.{cable_out as cable_out_of};
 ghost use Rattle.layout_meaning.specs.First.{IsFirst, IsFirstPair};
 ghost use Rattle.layout_meaning.specs.Numbers.{AreNumbers};
 
-use crate::walks::cable_out;
+use crate::outgoing::Outgoing;
 use cable_definitions::cable::Cable;
 use plane_geometry::clash;
 use site_model::Site;
@@ -37,7 +37,7 @@ fn pairs_clash(site: &Site, first: Cable, second: Cable) -> bool
 }
 
 /// The first start above that of a cable out of which comes a cable that clashes with it.
-fn first_clash_with(site: &Site, cables: &[Cable], first: Cable) -> Option<u32>
+fn first_clash_with(site: &Site, cables: &Outgoing, first: Cable) -> Option<u32>
     requires range { (i : ℕ) → KeepsRange site.now cables.now i }
     requires start { (i : ℕ) → KeepsStart cables.now i }
     requires out { cable_out_of cables.now first.from ≡ Some first }
@@ -47,7 +47,7 @@ fn first_clash_with(site: &Site, cables: &[Cable], first: Cable) -> Option<u32>
 {
     let count = site.points().len();
     for b in first.from + 1..count as u32 {
-        if let Some(second) = cable_out(cables, b) {
+        if let Some(second) = cables.cable_out(b) {
             if pairs_clash(site, first, second) {
                 return Some(b);
             }
@@ -57,7 +57,7 @@ fn first_clash_with(site: &Site, cables: &[Cable], first: Cable) -> Option<u32>
 }
 
 /// The first two starts, the lower one first, of cables that clash.
-pub(crate) fn first_clash(site: &Site, cables: &[Cable]) -> Option<(u32, u32)>
+pub(crate) fn first_clash(site: &Site, cables: &Outgoing) -> Option<(u32, u32)>
     requires range { (i : ℕ) → KeepsRange site.now cables.now i }
     requires start { (i : ℕ) → KeepsStart cables.now i }
     ensures none { IfNone result ((a b : ℕ) → KeepsClear site.now cables.now a b) }
@@ -65,7 +65,7 @@ pub(crate) fn first_clash(site: &Site, cables: &[Cable]) -> Option<(u32, u32)>
 {
     let count = site.points().len();
     for a in 0..count as u32 {
-        if let Some(first) = cable_out(cables, a) {
+        if let Some(first) = cables.cable_out(a) {
             if let Some(b) = first_clash_with(site, cables, first) {
                 return Some((a, b));
             }

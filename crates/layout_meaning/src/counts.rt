@@ -4,11 +4,11 @@ ghost use Rattle.cable_definitions.specs.declared.site.Mode.TheVariants.{Strings
 ghost use Rattle.layout_meaning.specs.First.{IsFirst};
 
 use crate::ends::end_count;
-use cable_definitions::cable::Cable;
+use crate::outgoing::Outgoing;
 use site_model::{Kind, Mode, Site};
 
 /// The first substation in which more cables end than it has feeders.
-pub(crate) fn first_crowded(site: &Site, cables: &[Cable]) -> Option<u32>
+pub(crate) fn first_crowded(site: &Site, cables: &Outgoing) -> Option<u32>
     ensures none { IfNone result ((p : ℕ) → KeepsFeeders site.now cables.now p) }
     ensures first { IfSome result (IsFirst (KeepsFeeders site.now cables.now)) }
 {
@@ -25,7 +25,7 @@ pub(crate) fn first_crowded(site: &Site, cables: &[Cable]) -> Option<u32>
 }
 
 /// The first turbine of a site in strings mode in which more than one cable ends.
-pub(crate) fn first_branched(site: &Site, cables: &[Cable]) -> Option<u32>
+pub(crate) fn first_branched(site: &Site, cables: &Outgoing) -> Option<u32>
     ensures none { IfNone result ((p : ℕ) → KeepsString site.now cables.now p) }
     ensures first { IfSome result (IsFirst (KeepsString site.now cables.now)) }
 {
@@ -36,7 +36,7 @@ pub(crate) fn first_branched(site: &Site, cables: &[Cable]) -> Option<u32>
 }
 
 /// The first turbine in which more than one cable ends.
-fn first_joint(site: &Site, cables: &[Cable]) -> Option<u32>
+fn first_joint(site: &Site, cables: &Outgoing) -> Option<u32>
     requires { site.now.mode ≡ Strings }
     ensures none { IfNone result ((p : ℕ) → KeepsString site.now cables.now p) }
     ensures first { IfSome result (IsFirst (KeepsString site.now cables.now)) }

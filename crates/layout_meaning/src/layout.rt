@@ -3,7 +3,7 @@ use std::alloc::{AllocError, Global};
 use std::marker::Model;
 
 /// The most cables of a layout.
-pub const MOST_CABLES: usize = 256;
+const MOST_CABLES: usize = 256;
 
 /// A layout has 256 cables already.
 #[derive(Clone, Copy, Debug, PartialEq, Eq, thiserror::Error)]

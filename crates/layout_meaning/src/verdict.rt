@@ -1,6 +1,7 @@
 ghost use Rattle.std.specs.Prelude.{◌≡◌, ◌≤◌, length, IfNone, IfSome};
 ghost use Rattle.cable_definitions.specs.Layout.{IsFirstBroken};
 ghost use Rattle.layout_meaning.specs.First.{KeepsBelow};
+ghost use Rattle.layout_meaning.specs.Loads.{AreLoads};
 ghost use Rattle.layout_meaning.specs.Verdict.{IsVerdict};
 
 use crate::candidates::first_no_candidate;
@@ -11,6 +12,8 @@ use crate::ends::{first_lost, first_open_bend, first_unjoined};
 use crate::layout::Layout;
 use crate::loads::{first_overloaded, first_overpowered};
 use crate::numbers::{first_out_of_range, first_repeated_start};
+use crate::outgoing::Outgoing;
+use crate::walks::loads;
 use cable_definitions::cable::{Cable, Rule};
 use site_model::Site;
 
@@ -61,8 +64,9 @@ fn breach_of_cables(site: &Site, cables: &[Cable]) -> Option<Breach>
 }
 
 /// The first breach of the rules on walks and loads, where cables are candidates with different starts.
-fn breach_of_walks(site: &Site, cables: &[Cable]) -> Option<Breach>
-    requires { KeepsBelow site.now cables.now 4 }
+fn breach_of_walks(site: &Site, cables: &Outgoing, loads: &[u32; 256]) -> Option<Breach>
+    requires kept { KeepsBelow site.now cables.now 4 }
+    requires loads { AreLoads site.now cables.now loads.now }
     ensures none { IfNone result (KeepsBelow site.now cables.now 8) }
     ensures first { IfSome result (λ breach. IsFirstBroken site.now cables.now breach.rule breach.a breach.b) }
 {
@@ -87,7 +91,7 @@ fn breach_of_walks(site: &Site, cables: &[Cable]) -> Option<Breach>
             b: p,
         });
     }
-    if let Some(cable) = first_overloaded(site, cables) {
+    if let Some(cable) = first_overloaded(site, cables, loads) {
         return Some(Breach {
             rule: Rule::Overload,
             a: cable.from,
@@ -98,9 +102,10 @@ fn breach_of_walks(site: &Site, cables: &[Cable]) -> Option<Breach>
 }
 
 /// The first breach of the rules on what meets: at substations, at turbines, and where cables clash.
-fn breach_of_meetings(site: &Site, cables: &[Cable]) -> Option<Breach>
+fn breach_of_meetings(site: &Site, cables: &Outgoing, loads: &[u32; 256]) -> Option<Breach>
     requires count { length cables.now ≤ 256 }
     requires kept { KeepsBelow site.now cables.now 8 }
+    requires loads { AreLoads site.now cables.now loads.now }
     ensures none { IfNone result (KeepsBelow site.now cables.now 12) }
     ensures first { IfSome result (λ breach. IsFirstBroken site.now cables.now breach.rule breach.a breach.b) }
 {
@@ -111,7 +116,7 @@ fn breach_of_meetings(site: &Site, cables: &[Cable]) -> Option<Breach>
             b: p,
         });
     }
-    if let Some(p) = first_overpowered(site, cables) {
+    if let Some(p) = first_overpowered(site, cables.cables(), loads) {
         return Some(Breach {
             rule: Rule::Power,
             a: p,
@@ -135,19 +140,25 @@ fn breach_of_meetings(site: &Site, cables: &[Cable]) -> Option<Breach>
     None
 }
 
-/// The first breach of all rules.
-fn first_breach(site: &Site, cables: &[Cable]) -> Option<Breach>
-    requires { length cables.now ≤ 256 }
+/// The first breach of the rules on what the cables join and carry.
+fn breach_of_farm(site: &Site, cables: &Outgoing, loads: &[u32; 256]) -> Option<Breach>
+    requires count { length cables.now ≤ 256 }
+    requires kept { KeepsBelow site.now cables.now 4 }
+    requires loads { AreLoads site.now cables.now loads.now }
     ensures none { IfNone result (KeepsBelow site.now cables.now 12) }
     ensures first { IfSome result (λ breach. IsFirstBroken site.now cables.now breach.rule breach.a breach.b) }
 {
-    if let Some(breach) = breach_of_cables(site, cables) {
+    if let Some(breach) = breach_of_walks(site, cables, loads) {
         return Some(breach);
     }
-    if let Some(breach) = breach_of_walks(site, cables) {
-        return Some(breach);
-    }
-    breach_of_meetings(site, cables)
+    breach_of_meetings(site, cables, loads)
+}
+
+/// The verdict of a broken rule.
+fn broken(breach: Breach) -> Verdict
+    ensures { result ≡ Verdict.Broken breach.rule breach.a breach.b }
+{
+    Verdict::Broken(breach.rule, breach.a, breach.b)
 }
 
 /// Judges a list of at most 256 cables by the eleven rules. It takes no memory.
@@ -155,9 +166,14 @@ pub fn judge_cables(site: &Site, cables: &[Cable]) -> Verdict
     requires { length cables.now ≤ 256 }
     ensures { IsVerdict site.now cables.now result }
 {
-    match first_breach(site, cables) {
-        Some(breach) => Verdict::Broken(breach.rule, breach.a, breach.b),
-        None => Verdict::Legal(total_cost(site, cables)),
+    if let Some(breach) = breach_of_cables(site, cables) {
+        return broken(breach);
+    }
+    let outgoing = Outgoing::new(cables);
+    let loads = loads(site, &outgoing);
+    match breach_of_farm(site, &outgoing, &loads) {
+        Some(breach) => broken(breach),
+        None => Verdict::Legal(total_cost(site, cables, &loads)),
     }
 }
 

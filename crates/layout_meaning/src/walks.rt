@@ -1,38 +1,19 @@
-ghost use Rattle.std.specs.Prelude.{◌≡◌, ◌≤◌, ◌↔◌, IsTrue};
-ghost use Rattle.cable_definitions.specs.Walk.{cable_out as cable_out_of, passes as passes_by, load as load_of, walk_end as walk_end_of, most_steps};
-ghost use Rattle.cable_definitions.specs.Layout.{Starts};
+ghost use Rattle.std.specs.Prelude.{◌≡◌, ◌≤◌};
+ghost use Rattle.cable_definitions.specs.Walk.{passes as passes_by, load as load_of, walk_end as walk_end_of, most_steps};
 ghost use Rattle.cable_definitions.specs.Arcs.{power_of_kind};
-ghost use Rattle.cable_definitions.specs.Site.{IsValid};
+ghost use Rattle.layout_meaning.specs.Loads.{AreLoads};
 
+use crate::outgoing::Outgoing;
 use cable_definitions::cable::Cable;
 use site_model::{Kind, Point, Site};
 
-/// The first cable that starts in a point.
-pub(crate) fn cable_out(cables: &[Cable], p: u32) -> Option<Cable>
-    ensures { result ≡ cable_out_of cables.now p }
-{
-    for cable in cables {
-        if cable.from == p {
-            return Some(*cable);
-        }
-    }
-    None
-}
-
-/// Whether some cable starts in a point.
-pub(crate) fn starts(cables: &[Cable], p: u32) -> bool
-    ensures { IsTrue result ↔ Starts cables.now p }
-{
-    cable_out(cables, p).is_some()
-}
-
 /// Where the walk of a point ends.
-pub(crate) fn walk_end(cables: &[Cable], p: u32) -> u32
+pub(crate) fn walk_end(cables: &Outgoing, p: u32) -> u32
     ensures { result ≡ walk_end_of most_steps cables.now p }
 {
     let mut at = p;
     for step in 0..256u32 {
-        match cable_out(cables, at) {
+        match cables.cable_out(at) {
             None => return at,
             Some(cable) => at = cable.to,
         }
@@ -41,7 +22,7 @@ pub(crate) fn walk_end(cables: &[Cable], p: u32) -> u32
 }
 
 /// Whether the walk of `t` passes `p`.
-fn passes(cables: &[Cable], p: u32, t: u32) -> bool
+fn passes(cables: &Outgoing, p: u32, t: u32) -> bool
     ensures { result ≡ passes_by cables.now p t }
 {
     let mut at = t;
@@ -49,7 +30,7 @@ fn passes(cables: &[Cable], p: u32, t: u32) -> bool
         if at == p {
             return true;
         }
-        match cable_out(cables, at) {
+        match cables.cable_out(at) {
             None => return false,
             Some(cable) => at = cable.to,
         }
@@ -68,11 +49,10 @@ fn power_of(point: &Point) -> u32
     }
 }
 
-/// The load of the cable out of a point, in power units.
-pub fn load(site: &Site, cables: &[Cable], p: u32) -> u32
+/// The load of the cable out of a point, where the cables out of all points are at hand.
+fn load_at(site: &Site, cables: &Outgoing, p: u32) -> u32
     ensures value { result ≡ load_of site.now cables.now p }
     ensures small { result ≤ 256000 }
-    ensures valid { IsValid site.now }
 {
     let points = site.points();
     let mut total: u32 = 0;
@@ -84,4 +64,24 @@ pub fn load(site: &Site, cables: &[Cable], p: u32) -> u32
         t += 1;
     }
     total
+}
+
+/// The load of the cable out of a point: the sum of the powers, in power units, of the turbines whose walk passes it.
+pub fn load(site: &Site, cables: &[Cable], p: u32) -> u32
+    ensures value { result ≡ load_of site.now cables.now p }
+    ensures small { result ≤ 256000 }
+{
+    load_at(site, &Outgoing::new(cables), p)
+}
+
+/// The loads of the cables out of all points of a site, by the points' numbers.
+pub(crate) fn loads(site: &Site, cables: &Outgoing) -> [u32; 256]
+    ensures { AreLoads site.now cables.now result }
+{
+    let count = site.points().len();
+    let mut loads = [0; 256];
+    for p in 0..count {
+        loads[p] = load_at(site, cables, p as u32);
+    }
+    loads
 }

@@ -1,20 +1,20 @@
 use Rattle.std.proofs.Common.{arith, ap, sym, length, ◌∙◌, below_more}
-use Rattle.std.proofs.lemmas.Bool.{iff_false}
 use Rattle.cable_definitions.specs.Layout.{KeepsCapacity}
 use Rattle.layout_meaning.proofs.Places.{at_each_place}
 use Rattle.layout_meaning.proofs.Starting.{none_since, out_past, capacity_here, capacity_broken, capacity_none, first_start}
 use Rattle.layout_meaning.proofs.loads.first_overloaded.Goals as goal
-use Rattle.layout_meaning.proofs.loads.first_overloaded.Goals.{in-Some+else-not-bears, in_default}
+use Rattle.layout_meaning.proofs.loads.first_overloaded.Goals.{in-Some+else-loads-p, in_default}
 
-pub returns-then-not-bears-clause-first : goal.returns-then-not-bears-clause-first
-returns-then-not-bears-clause-first c =
+pub returns-then-loads-p-clause-first : goal.returns-then-loads-p-clause-first
+returns-then-loads-p-clause-first c =
     let e = sym c.cable_out.ensures ∙ c.in-Some.is in
+    let l = c.requires.loads.at c.loop-p.p (grind arith) in
     first_start c.args.site.now c.args.cables.now c.loop-p.p c.in-Some.cable e
-    (record { broken = capacity_broken c.args.site.now c.args.cables.now c.loop-p.p c.in-Some.cable e (iff_false c.bears.ensures c.if-not-bears.true); earlier = c.loop-p.invariant })
+    (record { broken = capacity_broken c.args.site.now c.args.cables.now c.loop-p.p c.in-Some.cable e (λ kept. absurd (omega (arith, kept, l, c.capacity.ensures))); earlier = c.loop-p.invariant })
 
 pub loop-p-preserved : goal.loop-p-preserved
 loop-p-preserved c = below_more _ _ c.loop-p.invariant (elim c.match-cable_out.branch [
-  | in-Some+else-not-bears w ↦ capacity_here c.args.site.now c.args.cables.now c.loop-p.p w.in-Some.cable c.requires.start (sym c.cable_out.ensures ∙ w.in-Some.is) (w.bears.ensures.0 w.if-not-bears.false)
+  | in-Some+else-loads-p w ↦ capacity_here c.args.site.now c.args.cables.now c.loop-p.p w.in-Some.cable c.requires.start (sym c.cable_out.ensures ∙ w.in-Some.is) (let l = c.requires.loads.at c.loop-p.p (grind arith) in omega (arith, l, w.capacity.ensures))
   | in_default w ↦ capacity_none c.args.site.now c.args.cables.now c.loop-p.p (sym c.cable_out.ensures ∙ none_since c.cable_out.result w.in_default.not-Some)
 ])
 
