@@ -1,5 +1,5 @@
 -- What a legal layout chooses at each arc, and that the sum of these choices lies between the sums of extremes in its box.
-use Rattle.std.proofs.Common.{◌≡◌, ◌≢◌, ℕ, suc, ◌+◌, ◌<◌, ◌≤◌, ◌⊎◌, inl, inr, Bool, true, false, cond, ℤ, pos, ◌+ℤ◌, ◌≤ℤ◌, List, [], ◌∷◌, map, length, slice_get, Some, None, Option, is_some, refl, ap, sym, ◌∙◌, subst, arith}
+use Rattle.std.proofs.Common.{◌≡◌, ◌≢◌, ℕ, ◌+◌, ◌≤◌, inl, inr, Bool, true, false, cond, ℤ, ◌≤ℤ◌, List, [], ◌∷◌, map, slice_get, Some, None, Option, is_some, refl, ap, sym, ◌∙◌, subst, arith}
 use Rattle.std.specs.Prelude.{IsTrue}
 use Rattle.std.specs.List.{enumerate_from}
 use Rattle.std.proofs.lemmas.Int.{ints}
@@ -11,11 +11,11 @@ use Rattle.cable_definitions.specs.declared.site.Kind.{Kind}
 use Rattle.cable_definitions.specs.declared.site.Kind.TheVariants.{Turbine, Substation, Bend}
 use Rattle.cable_definitions.specs.declared.site.Point.{Point}
 use Rattle.cable_definitions.specs.Site.{Site, IsValid}
-use Rattle.cable_definitions.specs.Arcs.{IsPoint, kind_of, kind_from, is_substation, power_of, power_of_kind, capacity_of}
+use Rattle.cable_definitions.specs.Arcs.{kind_of, kind_from, is_substation, power_of, power_of_kind}
 use Rattle.cable_definitions.specs.Walk.{cable_out, load}
-use Rattle.cable_definitions.specs.Layout.{IsCable, Starts, IsLegal}
+use Rattle.cable_definitions.specs.Layout.{Starts, IsLegal}
 use Rattle.cable_definitions.specs.Row.{Row, count_of, left, has_arc, flow_of}
-use Rattle.cable_definitions.specs.Choice.{Choice, NoCable, Carries, use_of, load_of, least_load, IsChoice, IsKept, IsInBox, AtMost, AtLeast, AreExtremes, IsSumOfExtremes}
+use Rattle.cable_definitions.specs.Choice.{Choice, NoCable, Carries, use_of, load_of, least_load, IsChoice, IsKept, IsInBox, AtMost, AtLeast, AreExtremes}
 use Rattle.cable_definitions.specs.Tree.{counted}
 use Rattle.number_laws.proofs.Sums.{sum_int, sum_int-cons, sum_int-same}
 use Rattle.layout_laws.proofs.Alike.{cable_out-of, cable_out-from}

@@ -10,3 +10,9 @@ pub mod Points
 pub mod RowsHold
 -- what a legal layout chooses at each arc, and that the sum of these choices lies between the sums of extremes in its box
 pub mod Choices
+-- the used arcs of a box, and their walks, which are beginnings of the walks of each layout in the box
+pub mod Within
+-- costs grow with the load, and a legal layout costs at most the ceiling
+pub mod Costs
+-- where a reason is true of a node, no legal layout lies in its box
+pub mod DeadNodes

@@ -1,4 +1,5 @@
 //! The laws of rows, weights and proof trees.
 #![tactic(auto)]
 
+pub mod reasons;
 pub mod rows;
