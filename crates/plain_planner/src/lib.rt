@@ -2,7 +2,7 @@
 //! takes exponential time, and is meant for sites of few points, with which other planners are compared.
 #![tactic(auto)]
 
-ghost use Rattle.std.specs.Prelude.{◌≡◌, ◌≢◌, ◌+◌, ◌<◌, ◌≤◌, length, vec_len, All, IfOk, OnOk, IfSome, IfNone};
+ghost use Rattle.std.specs.Prelude.{◌≡◌, ◌≢◌, ◌+◌, ◌<◌, ◌≤◌, length, vec_len, All, AllPairs, IfOk, OnOk, IfSome, IfNone};
 ghost use Rattle.cable_definitions.specs.Layout.{IsLegal, cost, Least, HasNone};
 ghost use Rattle.plain_planner.specs.Choices.{Ascends, Completes, IsBest, IsJudged, cheaper as cheaper_of};
 
@@ -20,7 +20,7 @@ pub fn cheapest_layout(alloc: Global, site: &Site) -> Result<Option<(Layout, u64
     ensures legal { IfOk result (λ best. IfSome best (λ b. IsLegal site.now b.0)) }
     ensures cost { IfOk result (λ best. IfSome best (λ b. b.1 ≡ cost site.now b.0)) }
     ensures least { IfOk result (λ best. IfSome best (λ b. Least site.now b.1)) }
-    ensures in_order { IfOk result (λ best. IfSome best (λ b. Ascends b.0)) }
+    ensures in_order { IfOk result (λ best. IfSome best (λ b. AllPairs (λ c d. c.from < d.from) b.0)) }
 {
     let mut chosen = Vec::new(alloc);
     best_from(alloc, site, 0, &mut chosen)
