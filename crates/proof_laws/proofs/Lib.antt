@@ -16,3 +16,5 @@ pub mod Within
 pub mod Costs
 -- where a reason is true of a node, no legal layout lies in its box
 pub mod DeadNodes
+-- a layout in the box of a full node uses the node's used arcs alone, and costs at least as much as the full layout
+pub mod FullNodes

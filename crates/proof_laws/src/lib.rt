@@ -1,5 +1,6 @@
 //! The laws of rows, weights and proof trees.
 #![tactic(auto)]
 
+pub mod full;
 pub mod reasons;
 pub mod rows;
