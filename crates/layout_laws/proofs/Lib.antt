@@ -12,3 +12,5 @@ pub mod Ending
 pub mod Used
 -- loads out of sets of points, and into all substations
 pub mod Sets
+-- the cheapest types that bear given loads
+pub mod Typing

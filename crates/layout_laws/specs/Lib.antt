@@ -2,3 +2,5 @@
 pub mod Alike
 -- how often a walk comes to a point, walks that end, and cables that leave a set of points
 pub mod Visits
+-- lists of cables to which types can be given that make them grown
+pub mod Typable

@@ -3,5 +3,6 @@
 
 pub mod loads;
 pub mod order;
+pub mod types;
 pub mod uses;
 pub mod walks;
