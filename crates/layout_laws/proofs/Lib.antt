@@ -14,3 +14,7 @@ pub mod Used
 pub mod Sets
 -- the cheapest types that bear given loads
 pub mod Typing
+-- what the cheapest types make of a list of cables
+pub mod Typed
+-- costs at greater loads
+pub mod Monotone

@@ -1,15 +1,15 @@
 -- The cheapest types that bear given loads, and lists of cables that have them.
-use Rattle.std.proofs.Common.{◌≡◌, ◌≢◌, ℕ, zero, suc, ◌<◌, ◌≤◌, ◌⊎◌, inl, inr, List, [], ◌∷◌, map, length, get_or, fold, max, sum_by, Option, Some, None, slice_get, All, refl, ap, sym, ◌∙◌, subst, arith}
+use Rattle.std.proofs.Common.{◌≡◌, ℕ, zero, suc, ◌<◌, ◌≤◌, ◌⊎◌, inl, inr, List, [], ◌∷◌, map, length, get_or, fold, max, sum_by, Some, slice_get, All, refl, ap, sym, ◌∙◌, subst, arith}
 use Rattle.std.proofs.lemmas.Bool.{cases_lt}
 use Rattle.std.proofs.lemmas.List.Sums.{sum_by-cons}
 use Rattle.std.proofs.lemmas.List.Elements.{All-map}
-use Rattle.std.proofs.lemmas.Option.{slice_get_within, get_or_from_slice_get, slice_get-get_or}
+use Rattle.std.proofs.lemmas.Option.{slice_get_within, get_or_from_slice_get}
 use Rattle.cable_definitions.specs.declared.cable.Cable.{Cable}
 use Rattle.cable_definitions.specs.declared.site.CableType.{CableType}
 use Rattle.cable_definitions.specs.Site.{Site}
 use Rattle.cable_definitions.specs.Arcs.{cost_of, capacity_of, capacity_from, largest_capacity, Bears, IsCheapest}
 use Rattle.cable_definitions.specs.Walk.{load}
-use Rattle.cable_definitions.specs.Layout.{IsCable, KeepsRange, KeepsCapacity, cost}
+use Rattle.cable_definitions.specs.Layout.{IsCable, cost}
 use Rattle.cable_definitions.specs.Part.{SameArcs, AreCheapTyped}
 use Rattle.layout_laws.specs.Alike.{StartsDiffer}
 use Rattle.layout_laws.proofs.Alike.{load-same}
@@ -34,35 +34,55 @@ least_below cost Fits decide (suc n) = step (least_below cost Fits decide n) (de
   where
     step : ((g : ℕ) → g < n → ¬ (Fits g)) ⊎ ((g : ℕ) × (g < n) × (Fits g) × ((other : ℕ) → other < n → Fits other → Beats cost g other)) → Fits n ⊎ (¬ (Fits n))
         → ((g : ℕ) → g < suc n → ¬ (Fits g)) ⊎ ((g : ℕ) × (g < suc n) × (Fits g) × ((other : ℕ) → other < suc n → Fits other → Beats cost g other))
-    step (inl none) (inl b) = inr (n, omega arith, b, λ other l c. elim (split_below other n l) [
-      | inl k ↦ absurd (none other k c)
-      | inr e ↦ inr (ap cost (sym e), omega arith)
-    ])
+    step (inl none) (inl b) = inr (
+      n,
+      omega arith,
+      b,
+      λ other l c. elim (split_below other n l) [
+        | inl k ↦ absurd (none other k c)
+        | inr e ↦ inr (ap cost (sym e), omega arith)
+      ],
+    )
     step (inl none) (inr m) = inl (λ g l c. elim (split_below g n l) [
       | inl k ↦ none g k c
       | inr e ↦ m (subst Fits e c)
     ])
-    step (inr (g, l, f, least)) (inr m) = inr (g, omega arith, f, λ other k c. elim (split_below other n k) [
-      | inl j ↦ least other j c
-      | inr e ↦ absurd (m (subst Fits e c))
-    ])
-    step (inr (g, l, f, least)) (inl b) = elim (cases_lt (cost n) (cost g)) [
-      | inl lower ↦ inr (n, omega arith, b, λ other k c. elim (split_below other n k) [
-        | inl j ↦ elim (least other j c) [
-          | inl h ↦ inl (omega arith)
-          | inr h ↦ let same : cost g ≡ cost other = h.0 in inl (omega arith)
-        ]
-        | inr e ↦ inr (ap cost (sym e), omega arith)
-      ])
-      | inr no_lower ↦ inr (g, omega arith, f, λ other k c. elim (split_below other n k) [
+    step (inr (g, l, f, least)) (inr m) = inr (
+      g,
+      omega arith,
+      f,
+      λ other k c. elim (split_below other n k) [
         | inl j ↦ least other j c
-        | inr e ↦
-            let same : cost other ≡ cost n = ap cost e in
-            elim (cases_lt (cost g) (cost other)) [
-              | inl h ↦ inl h
-              | inr h ↦ inr (omega arith, omega arith)
-            ]
-      ])
+        | inr e ↦ absurd (m (subst Fits e c))
+      ],
+    )
+    step (inr (g, l, f, least)) (inl b) = elim (cases_lt (cost n) (cost g)) [
+      | inl lower ↦ inr (
+        n,
+        omega arith,
+        b,
+        λ other k c. elim (split_below other n k) [
+          | inl j ↦ elim (least other j c) [
+            | inl h ↦ inl (omega arith)
+            | inr h ↦ let same : cost g ≡ cost other = h.0 in inl (omega arith)
+          ]
+          | inr e ↦ inr (ap cost (sym e), omega arith)
+        ],
+      )
+      | inr no_lower ↦ inr (
+        g,
+        omega arith,
+        f,
+        λ other k c. elim (split_below other n k) [
+          | inl j ↦ least other j c
+          | inr e ↦
+              let same : cost other ≡ cost n = ap cost e in
+              elim (cases_lt (cost g) (cost other)) [
+                | inl h ↦ inl h
+                | inr h ↦ inr (omega arith, omega arith)
+              ]
+        ],
+      )
     ]
 
 -- whether a type bears a load
@@ -232,12 +252,14 @@ with_cheap_type-arcs s cables (c ∷ xs) =
 pub some_cheap_typed : (s : Site) (cables : List Cable) → (typed : List Cable) × AreCheapTyped s cables typed
 some_cheap_typed s cables =
     let typed = map (with_cheap_type s cables) cables in
-    let arcs = with_cheap_type-arcs s cables cables in
-    (typed, record {
-      arcs = arcs;
-      types = All-map (λ (c : Cable). IsCheapOrNone s c.from c.to (load s typed c.from) c.grade) (with_cheap_type s cables) cables
-        (λ k d l. right typed arcs (get_or cables k d));
-    })
+    let arcs = with_cheap_type-arcs s cables cables in (
+      typed,
+      record {
+        arcs = arcs;
+        types = All-map (λ (c : Cable). IsCheapOrNone s c.from c.to (load s typed c.from) c.grade) (with_cheap_type s cables) cables
+            (λ k d l. right typed arcs (get_or cables k d));
+      },
+    )
   where
     right : (typed : List Cable) → SameArcs typed cables → (c : Cable) → IsCheapOrNone s c.from c.to (load s typed c.from) (cheap_or_none s c.from c.to (load s cables c.from)).0
     right typed arcs c =

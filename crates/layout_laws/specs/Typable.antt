@@ -1,5 +1,5 @@
 -- Lists of cables to which types can be given that make them grown.
-use Rattle.std.specs.Prelude.{◌≢◌, ℕ, ◌<◌, ◌≤◌, List, length}
+use Rattle.std.specs.Prelude.{◌≢◌, ℕ, ◌<◌, ◌≤◌, List, [], ◌∷◌, ◌++◌, length}
 use Rattle.cable_definitions.specs.declared.cable.Cable.{Cable}
 use Rattle.cable_definitions.specs.declared.cable.Rule.{Rule}
 use Rattle.cable_definitions.specs.declared.cable.Rule.TheVariants.{Range, Unjoined, Overload}
@@ -14,3 +14,7 @@ pub record IsTypable (s : Site) (cables : List Cable) : Type 0 where
   pub to : (i : ℕ) (c : Cable) → IsCable cables i c → c.to < length s.points
   pub rules : (rule : Rule) (i j : ℕ) → rule ≢ Range → rule ≢ Unjoined → rule ≢ Overload → Keeps s cables rule i j
   pub loads : (i : ℕ) (c : Cable) → IsCable cables i c → load s cables c.from ≤ largest_capacity s
+
+-- the list with one more cable at its end, of type 0
+abbrev pub with_cable : List Cable → ℕ → ℕ → List Cable
+with_cable cables p q = cables ++ record { from = p; to = q; grade = 0 } ∷ []

@@ -1,6 +1,7 @@
 //! The laws of walks, loads and layouts.
 #![tactic(auto)]
 
+pub mod costs;
 pub mod loads;
 pub mod order;
 pub mod types;
