@@ -30,6 +30,7 @@ impl Model for Layout {
 impl Layout {
     ghost use Rattle.std.specs.Prelude.{◌≡◌, ◌<◌, ◌≤◌, ◌↔◌, [], ◌∷◌, ◌++◌, length, OnOk, OnErr, IfOk, IsOk, IsErr, AllPairs};
     ghost use Rattle.std.specs.List.Sorted.{IsPermutation};
+    ghost use Rattle.layout_laws.specs.Alike.{StartsDiffer, SameOuts};
     ghost use Rattle.layout_meaning.specs.Order.{ComesBefore};
 
     /// A layout of no cable, with room for 256.
@@ -82,6 +83,10 @@ impl Layout {
     pub fn arrange(&mut self)
         ensures same_cables { IsPermutation self.old self.new }
         ensures in_order { AllPairs ComesBefore self.new }
+
+        // Where no two cables start alike, that is so afterwards too, and walks are the same.
+        ensures starts_differ { StartsDiffer self.old → StartsDiffer self.new }
+        ensures same_outs { StartsDiffer self.old → SameOuts self.old self.new }
     {
         self.cables
             .sort_unstable_by_key(|cable| (cable.from, cable.to, cable.grade));

@@ -7,15 +7,18 @@ use crate::outgoing::Outgoing;
 use cable_definitions::cable::Cable;
 use site_model::{Kind, Point, Site};
 
+/// The most steps of a walk: one for each point that a site may have.
+const MOST_STEPS: u32 = 256;
+
 /// Where the walk of a point ends.
 pub(crate) fn walk_end(cables: &Outgoing, p: u32) -> u32
     ensures { result ≡ walk_end_of most_steps cables.now p }
 {
     let mut at = p;
-    for step in 0..256u32 {
+    for step in 0..MOST_STEPS {
         match cables.cable_out(at) {
             None => return at,
-            Some(cable) => at = cable.to,
+            Some(next) => at = next.to,
         }
     }
     at
@@ -26,7 +29,7 @@ fn passes(cables: &Outgoing, p: u32, t: u32) -> bool
     ensures { result ≡ passes_by cables.now p t }
 {
     let mut at = t;
-    for step in 0..256u32 {
+    for step in 0..MOST_STEPS {
         if at == p {
             return true;
         }

@@ -7,7 +7,7 @@ pub returns-in-None : goal.returns-in-None
 returns-in-None c = sym (c.loop-step.invariant ∙ walk_end_none (most_steps - c.loop-step.step) c.args.cables.now c.loop-step.at (sym c.cable_out.ensures ∙ c.in-None.is))
 
 pub loop-step-preserved : goal.loop-step-preserved
-loop-step-preserved c = c.loop-step.invariant ∙ walk_end_later c.args.cables.now c.loop-step.step c.loop-step.at c.in-Some.cable c.loop-step-test.true (sym c.in-Some.ensures)
+loop-step-preserved c = c.loop-step.invariant ∙ walk_end_later c.args.cables.now c.loop-step.step c.loop-step.at c.in-Some.next c.loop-step-test.true (sym c.in-Some.ensures)
 
 pub returns : goal.returns
 returns c = sym (c.loop-step.invariant ∙ walk_end_last c.args.cables.now c.loop-step.step c.loop-step.at c.loop-step-test.false)
