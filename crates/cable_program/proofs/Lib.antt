@@ -1,2 +1,3 @@
 pub mod Unread
 pub mod Headlines
+pub mod Documents

@@ -2,6 +2,7 @@
 //! to `run`, whose contract is the promise of the whole program.
 #![tactic(auto)]
 
+mod document;
 mod ending;
 mod notes;
 mod plan;

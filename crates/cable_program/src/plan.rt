@@ -4,7 +4,8 @@ ghost use Rattle.cable_program.specs.Planning.{PrintEnds, IsFinal};
 
 use crate::ending::Ending;
 use crate::notes::{note_fault, refuse_site};
-use crate::stubs::{planned, read_whole, write_plan};
+use crate::document::write_plan;
+use crate::stubs::{planned, read_whole};
 use cable_definitions::claim::Claim;
 use cable_text::{Sink, Source};
 use std::alloc::Global;
