@@ -6,14 +6,36 @@ mod document;
 mod ending;
 mod notes;
 mod plan;
+mod planning;
 mod run;
 mod stubs;
+#[cfg(test)]
+mod tests;
 mod words;
 
+use cable_text::{StdSink, StdSource};
+use run::run;
+use std::env;
+use std::io;
 use std::process::ExitCode;
 
 fn main(rt: HostRuntime) -> ExitCode {
-    let _words = words::words_of(&[]);
-    let _alloc = rt.alloc();
-    ExitCode::from(ending::Ending::Usage.status())
+    let alloc = rt.alloc();
+    let mut input = StdSource::new(rt.reader());
+    let mut out = StdSink::new(io::writer(&rt));
+    let mut note = StdSink::new(rt.stderr());
+    let ending = match words_given(&rt) {
+        Ok(words) => run(alloc, words.as_slice(), &mut input, &mut out, &mut note),
+        Err(_) => run(alloc, &[], &mut input, &mut out, &mut note),
+    };
+    ExitCode::from(ending.status())
+}
+
+/// The words after the program's name; an error where they can't be read or aren't text.
+fn words_given(rt: &HostRuntime) -> io::Result<Vec<String>> {
+    let mut words = Vec::new(rt.alloc());
+    for word in env::args(rt)?.skip(1) {
+        words.push(word)?;
+    }
+    Ok(words)
 }

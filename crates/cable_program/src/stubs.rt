@@ -1,11 +1,8 @@
-ghost use Rattle.std.specs.Prelude.{IfOk};
-ghost use Rattle.cable_program.specs.Planning.{ReadsSite, IsPlanFor};
+ghost use Rattle.cable_program.specs.Planning.{ReadsSite};
 
-use cable_definitions::claim::Claim;
 use cable_text::Source;
-use layout_meaning::Layout;
 use site_model::Site;
-use std::alloc::{AllocError, Global};
+use std::alloc::Global;
 use crate::plan::PlanFault;
 
 pub fn read_whole<S: Source>(alloc: Global, input: &mut S) -> Result<Site, PlanFault>
@@ -15,12 +12,4 @@ pub fn read_whole<S: Source>(alloc: Global, input: &mut S) -> Result<Site, PlanF
     let mut buf = [0u8; 1];
     let _ = input.pull(&mut buf);
     Err(PlanFault::Memory)
-}
-
-pub fn planned(alloc: Global, site: &Site) -> Result<(Layout, Claim), AllocError>
-    ensures { IfOk result (λ p. IsPlanFor site.now p.0 p.1) }
-{
-    let _ = alloc;
-    let _ = site.points();
-    Err(AllocError)
 }
