@@ -3,7 +3,7 @@ use Rattle.std.proofs.Common.{◌≡◌, ℕ, zero, suc, ◌<◌, List, [], ◌�
 use Rattle.std.proofs.lemmas.Int.{ints}
 use Rattle.std.specs.Prelude.{codes, length, Some, All, not, ◌==◌}
 use Rattle.std.specs.List.{AllPass}
-use Rattle.std.specs.Fmt.{digits}
+use Rattle.cable_definitions.specs.Numeral.{numeral}
 use Rattle.cable_definitions.specs.declared.claim.Cause.{Cause}
 use Rattle.cable_definitions.specs.declared.claim.Cause.TheVariants.{Line, Form, Site, Row, Limit, Node, Weight, Arc, Dead, Full, Layout, Verdict}
 use Rattle.cable_definitions.specs.Text.{IsWord, Piece, Whole, LongLine, CutLine, NoLine}
@@ -69,14 +69,14 @@ zero_is_word : IsWord (48 ∷ [])
 zero_is_word = record { not_empty = λ e. absurd (omega (arith, ap length e)); no_space = zero_without 32 refl; no_newline = zero_without 10 refl }
 
 are_words : All IsWord (spelling (BudgetLine (pos 0)))
-unfolding digits
+unfolding numeral
 are_words zero d l = budget_is_word
 are_words (suc zero) d l = zero_is_word
 are_words (suc (suc k)) d l = absurd (omega (arith, l))
 
 -- it is a line that may stand behind a site
 line_is : (text : List ℕ) → zero_budget ≡ text → IsLineAt AtBudget text (BudgetLine (pos 0))
-unfolding digits
+unfolding numeral
 line_is text e = record { spelled = record { are_words = are_words; text_is = sym e; members = tt }; allowed = refl }
 
 -- the text of a whole line

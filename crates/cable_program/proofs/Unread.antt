@@ -8,7 +8,8 @@ use Rattle.cable_definitions.specs.declared.command.Command.TheVariants.{Plan, C
 use Rattle.cable_definitions.specs.Built.{IsBuiltWords}
 use Rattle.cable_text.specs.declared.number.NumberFault.{NumberFault}
 use Rattle.cable_text.specs.declared.number.NumberFault.TheVariants.{NotDecimal, Over}
-use Rattle.cable_text.specs.Number.{spelling, IsOutside}
+use Rattle.cable_definitions.specs.Numeral.{spelling}
+use Rattle.cable_text.specs.Number.{IsOutside}
 use Rattle.cable_text.proofs.Numerals.{numeral-decimal}
 use Rattle.cable_text.proofs.Reading.{spelling-same}
 

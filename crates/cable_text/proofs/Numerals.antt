@@ -12,7 +12,7 @@ use Rattle.std.proofs.lemmas.List.{drop-set, take_all, length-drop, length-set}
 use Rattle.std.proofs.Common.{set}
 use Rattle.cable_definitions.specs.Text.{number}
 use Rattle.std.specs.Fmt.{decimal}
-use Rattle.cable_text.specs.Number.{digit_bytes, numeral}
+use Rattle.cable_definitions.specs.Numeral.{digit_bytes, numeral}
 
 -- zero has no digits
 pub digit_bytes-zero : digit_bytes 0 ≡ []

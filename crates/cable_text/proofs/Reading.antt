@@ -10,7 +10,8 @@ use Rattle.std.proofs.lemmas.Int.Digits.{number_digits_of, all_below_base_digits
 use Rattle.cable_definitions.specs.Text.{number}
 use Rattle.cable_text.specs.declared.number.NumberFault.{NumberFault}
 use Rattle.cable_text.specs.declared.number.NumberFault.TheVariants.{NotDecimal, Over}
-use Rattle.cable_text.specs.Number.{digit_bytes, numeral, spelling, IsDigit, IsNumeral, IsOutside, value_after}
+use Rattle.cable_definitions.specs.Numeral.{digit_bytes, numeral, spelling}
+use Rattle.cable_text.specs.Number.{IsDigit, IsNumeral, IsOutside, value_after}
 use Rattle.cable_text.proofs.Numerals.{digit_bytes-zero, digit_bytes-step, numeral-zero, numeral-digit_bytes, numeral-decimal, length-digit_bytes_step}
 
 -- the bytes after the first

@@ -1,21 +1,8 @@
--- The spelling of whole numbers of any size.
-use Rattle.std.specs.Prelude.{◌≡◌, ◌≢◌, ℕ, ◌+◌, ◌<◌, ◌≤◌, ◌-◌, ◌*◌, ◌⊎◌, ℤ, pos, negsuc, ◌<ℤ◌, List, [], ◌∷◌, map, length, slice_index, EachIndex, if◌then◌else◌, ◌==◌, ◌^◌}
-use Rattle.std.specs.Int.Digits.{digits_of}
+-- Words that spell whole numbers, and what reading makes of them.
+use Rattle.std.specs.Prelude.{◌≡◌, ◌≢◌, ℕ, ◌+◌, ◌<◌, ◌≤◌, ◌-◌, ◌*◌, ◌⊎◌, ℤ, pos, negsuc, ◌<ℤ◌, List, [], ◌∷◌, length, slice_index, EachIndex, ◌^◌}
+use Rattle.cable_definitions.specs.Numeral.{spelling}
 use Rattle.cable_text.specs.declared.number.Spelled.{Spelled}
 use Rattle.cable_text.specs.declared.number.Spelled.TheVariants.{Value, Beyond, Nothing}
-
--- the digits of a whole number as bytes, the highest first, and none for 0
-unfoldable pub digit_bytes : ℕ → List ℕ
-digit_bytes n = map (λ d. 48 + d) (digits_of 10 n)
-
--- the digits of a whole number from 0, with no 0 in front
-unfoldable pub numeral : ℕ → List ℕ
-numeral n = if n == 0 then 48 ∷ [] else digit_bytes n
-
--- the one spelling of a whole number
-abbrev pub spelling : ℤ → List ℕ
-spelling (pos n) = numeral n
-spelling (negsuc n) = 45 ∷ numeral (n + 1)
 
 -- the word spells the number
 abbrev pub Spells : List ℕ → ℤ → Type 0

@@ -1,7 +1,8 @@
 ghost use Rattle.std.specs.Prelude.{◌≡◌, ◌≢◌, ℕ, ℤ, ◌+◌, ◌-◌, ◌^◌, ◌<◌, ◌≤◌, ◌≤ℤ◌, ◌∷◌, length, drop, slice_index, EachIndex, IfOk, IfErr, IfSome, IfNone, IsTrue, ◌↔◌};
 ghost use Rattle.cable_definitions.specs.Text.{number};
 ghost use Rattle.cable_text.specs.Stream.{Writes};
-ghost use Rattle.cable_text.specs.Number.{spelling, IsOutside, IsDigit, IsNumeral, IsSpelled, numeral, value_after};
+ghost use Rattle.cable_definitions.specs.Numeral.{spelling, numeral};
+ghost use Rattle.cable_text.specs.Number.{IsOutside, IsDigit, IsNumeral, IsSpelled, value_after};
 
 use crate::stream::{Failed, Sink};
 use thiserror::Error;

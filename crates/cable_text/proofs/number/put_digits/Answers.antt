@@ -1,7 +1,7 @@
 -- Each turn puts the last digit that is left before those that were put.
 use Rattle.std.proofs.Common.{◌≡◌, ℕ, sym, refl, arith, length-set}
 use Rattle.std.proofs.lemmas.List.{append-nil, drop_all, drop-set}
-use Rattle.cable_text.specs.Number.{digit_bytes}
+use Rattle.cable_definitions.specs.Numeral.{digit_bytes}
 use Rattle.cable_text.proofs.Numerals.{digit_bytes-zero, numeral-zero, numeral-digit_bytes, length-digit_bytes, length-digit_bytes_step, digit_put}
 use Rattle.cable_text.proofs.number.put_digits.Goals as goal
 

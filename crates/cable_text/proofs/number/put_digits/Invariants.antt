@@ -1,6 +1,6 @@
 -- The digits that are left, and then those that were put, are the number's.
 use Rattle.std.proofs.Common.{◌≡◌, ◌+◌, ◌≤◌, ◌++◌, length, drop}
-use Rattle.cable_text.specs.Number.{numeral, digit_bytes}
+use Rattle.cable_definitions.specs.Numeral.{numeral, digit_bytes}
 use Rattle.cable_text.proofs.number.put_digits.Given as goal
 
 abbrev pub invariant-loop-left : goal.invariant-loop-left

@@ -2,7 +2,8 @@
 use Rattle.std.proofs.Common.{◌≡◌, pos, to_z, inr, sym, ap, ◌∙◌, arith}
 use Rattle.std.specs.Int.{w128}
 use Rattle.std.proofs.lemmas.Int.{ints}
-use Rattle.cable_text.specs.Number.{IsNumeral, spelling, value_after}
+use Rattle.cable_definitions.specs.Numeral.{spelling}
+use Rattle.cable_text.specs.Number.{IsNumeral, value_after}
 use Rattle.cable_text.proofs.Reading.{nothing_natural, spells_natural}
 use Rattle.cable_text.proofs.number.spelled_natural.Goals as goal
 

@@ -2,7 +2,8 @@
 use Rattle.std.proofs.Common.{◌≡◌, negsuc, ◌-◌, ◌-ℤ◌, to_z, of_z, inl, sym, ap, ◌∙◌, arith, rules}
 use Rattle.std.specs.Int.{w128}
 use Rattle.std.proofs.lemmas.Int.{ints}
-use Rattle.cable_text.specs.Number.{IsNumeral, spelling, value_after}
+use Rattle.cable_definitions.specs.Numeral.{spelling}
+use Rattle.cable_text.specs.Number.{IsNumeral, value_after}
 use Rattle.cable_text.proofs.Reading.{nothing_negative, nothing_zero, spells_negative, value-positive}
 use Rattle.cable_text.proofs.number.spelled_negative.Goals as goal
 
