@@ -12,7 +12,8 @@ use Rattle.std.proofs.lemmas.Cmp.{int_ranked}
 use Rattle.std.proofs.Math.Nat.{div-le_self, eq-one_of_dvd-one}
 use Rattle.fraction_laws.specs.Divisor.{AreCoprime}
 use Rattle.fraction_laws.specs.Rational.{ℚ, whole, ◌+ℚ◌, ◌*ℚ◌, ◌/ℚ◌, neg_ℚ, inverse, ◌<ℚ◌}
-use Rattle.fraction_laws.proofs.Cross.{same_from_cross, cross_from_same}
+use Rattle.fraction_laws.proofs.Cross.{same_from_cross, cross_from_same, IsQuotient-parts}
+use Rattle.fraction_laws.proofs.Expression.{same_quotients, IsQuotient-times}
 use Rattle.fraction_laws.proofs.Signs.{abs-neg, positive_is, some_abs, same_neg, same_inverse_positive, same_inverse_negative, same_quotient_positive, same_quotient_negative}
 use Rattle.fraction_laws.proofs.Reducing.{IsReduced, IsReduced-quotient, IsReduced-product, same_product, IsReduced-sum, same_sum, same_sum_over}
 use Rattle.bounded_fractions.specs.declared.fraction.Fraction.{Fraction}
@@ -71,6 +72,44 @@ module _ (l r : Fraction) (ld rd ln rn g h x y : ℕ) (p q : ℤ)
   same_product_step w e f =
       same_product (value_of l) (value_of r) g h (IsGcd-at ln rd _ _ g ln_is rd_is first) (IsGcd-at rn ld _ _ h rn_is ld_is second) w
       (e ∙ product_num) (f ∙ product_den)
+
+-- a product of whole numbers
+module _ (l r : Fraction) (s t : ℤ) (left_is : unsigned_abs l.den ≡ 1) (right_is : unsigned_abs r.den ≡ 1)
+    (s_is : s ≡ l.num *ℤ pos 1) (t_is : t ≡ r.num *ℤ pos 1) where
+  one_time : (z : ℤ) → z *ℤ pos 1 ≡ z
+  one_time z = same_value (times (var z) (nat 1)) (var z) (omega arith)
+
+  factor-abs : (f : Fraction) (z : ℤ) → z ≡ f.num *ℤ pos 1 → unsigned_abs z ≤ 2 ^ 62
+  factor-abs f z e = subst (λ y. unsigned_abs y ≤ 2 ^ 62) (sym (e ∙ one_time f.num)) f.num_in_range
+
+  whole_num : to_z w128 (of_z w128 (to_z w128 (of_z w128 s) *ℤ to_z w128 (of_z w128 t))) ≡ l.num *ℤ r.num
+  whole_num =
+      mul_back s t (factor-abs l s s_is) (factor-abs r t t_is)
+      ∙ ap (λ z. z *ℤ t) (s_is ∙ one_time l.num)
+      ∙ ap (λ z. l.num *ℤ z) (t_is ∙ one_time r.num)
+
+  pub whole_product_fits : FitsSigned w128 (to_z w128 (of_z w128 s) *ℤ to_z w128 (of_z w128 t))
+  whole_product_fits =
+      let a = factor-abs l s s_is in
+      let b = factor-abs r t t_is in
+      subst (λ z. FitsSigned w128 (z *ℤ to_z w128 (of_z w128 t))) (sym (back128 s (omega arith)))
+      (subst (λ z. FitsSigned w128 (s *ℤ z)) (sym (back128 t (omega arith)))
+      (fits_signed_from_abs w128 (s *ℤ t) (omega (arith, mul-abs s t a b))))
+
+  pub same_whole_product : (w : ℚ) → w.num ≡ to_z w128 (of_z w128 (to_z w128 (of_z w128 s) *ℤ to_z w128 (of_z w128 t))) → w.den ≡ 1
+      → w ≡ value_of l *ℚ value_of r
+  unfolding value_of
+  same_whole_product w e f =
+      same_quotients w (value_of l *ℚ value_of r) w.num (l.num *ℤ r.num) w.den (unsigned_abs l.den * unsigned_abs r.den) (IsQuotient-parts w)
+      (IsQuotient-times (value_of l) (value_of r) l.num r.num (unsigned_abs l.den) (unsigned_abs r.den) (IsQuotient-parts (value_of l)) (IsQuotient-parts (value_of r)))
+      (ap (λ z. z *ℤ pos (unsigned_abs l.den * unsigned_abs r.den)) (e ∙ whole_num)
+      ∙ ap (λ k. (l.num *ℤ r.num) *ℤ pos (k * unsigned_abs r.den)) left_is
+      ∙ ap (λ k. (l.num *ℤ r.num) *ℤ pos (1 * k)) right_is
+      ∙ ap (λ k. (l.num *ℤ r.num) *ℤ pos k) (sym f))
+
+-- 1 has no divisor in common with any number
+pub AreCoprime-one : (n : ℕ) → AreCoprime n 1
+AreCoprime-one n = record { only_one = λ k p q. eq-one_of_dvd-one q }
 
 -- a sum of two products of a numerator and a number that is no more than a denominator
 module _ (l r : Fraction) (m n : ℕ) (s t : ℤ) (m_most : m ≤ 2 ^ 62) (n_most : n ≤ 2 ^ 62) (s_is : s ≡ l.num *ℤ pos m) (t_is : t ≡ r.num *ℤ pos n) where
@@ -179,7 +218,7 @@ module _ (l r : Fraction) (k : ℕ) (s t : ℤ) (left_is : unsigned_abs l.den �
       → IsReduced (l.num +ℤ r.num) (unsigned_abs l.den) (to_z w128 (of_z w128 (to_z w128 (of_z w128 s) +ℤ to_z w128 (of_z w128 t)))) 1
   IsReduced-whole_step one = record {
     positive = lit≤ tt;
-    lowest = record { only_one = λ j p q. eq-one_of_dvd-one q };
+    lowest = AreCoprime-one _;
     cross = ap (λ z. z *ℤ pos (unsigned_abs l.den)) over_num ∙ ap (λ n. (l.num +ℤ r.num) *ℤ pos n) (left_is ∙ one);
   }
 

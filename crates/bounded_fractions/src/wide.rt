@@ -81,17 +81,33 @@ impl WideFraction {
         }
     }
 
-    // The product: each numerator and the other denominator are divided before they are multiplied.
+    // The product: each numerator and the other denominator are divided before they are multiplied;
+    // whole numbers need no division.
     pub fn product(left: Fraction, right: Fraction) -> WideFraction
         ensures { wide_value result ≡ value_of left *ℚ value_of right }
     {
         let left_den = left.den_size();
         let right_den = right.den_size();
+        if left_den == 1 && right_den == 1 {
+            return WideFraction::whole_product(left, right);
+        }
         let first = greatest_divisor(left.num_size(), right_den);
         let second = greatest_divisor(right.num_size(), left_den);
         WideFraction {
             num: left.part(first) * right.part(second),
             den: u128::from(left_den / second) * u128::from(right_den / first),
+        }
+    }
+
+    // The product of two whole numbers.
+    fn whole_product(left: Fraction, right: Fraction) -> WideFraction
+        requires left_is { unsigned_abs left.den ≡ 1 }
+        requires right_is { unsigned_abs right.den ≡ 1 }
+        ensures { wide_value result ≡ value_of left *ℚ value_of right }
+    {
+        WideFraction {
+            num: left.times(1) * right.times(1),
+            den: 1,
         }
     }
 

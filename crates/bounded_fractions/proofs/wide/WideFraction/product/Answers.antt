@@ -4,6 +4,10 @@ use Rattle.bounded_fractions.proofs.Casts.{divisor-some, divisor-no_more}
 use Rattle.bounded_fractions.proofs.Steps.{IsReduced-product_step, same_product_step, product_fits}
 use Rattle.bounded_fractions.proofs.wide.WideFraction.product.Goals as goal
 
+pub part-requires-clause-some : goal.part-requires-clause-some
+part-requires-clause-some c =
+    divisor-some _ _ c.args.right.den c.greatest_divisor-first.ensures.1 c.den_size-right_den.ensures c.args.right.positive
+
 pub part-requires-clause-no_more : goal.part-requires-clause-no_more
 part-requires-clause-no_more c =
     divisor-no_more _ _ c.args.right.den c.greatest_divisor-first.ensures.1 c.den_size-right_den.ensures c.args.right.positive c.args.right.den_in_range
