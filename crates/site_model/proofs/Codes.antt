@@ -1,10 +1,10 @@
 -- The first code of an item, one code after another.
 use Rattle.site_model.specs.declared.fault.BuildFault.{BuildFault}
 use Rattle.site_model.specs.declared.fault.BuildFault.TheVariants.{Refused}
-use Rattle.std.proofs.Common.{◌≡◌, ◌↔◌, Result, Err, ℕ, zero, suc, ◌<◌, ◌≤◌, ⊎_elim, List, [], ◌∷◌, length, get_or, Option, Some, None, IsTrue, ℤ, pos, neg_ℤ, ◌≤ℤ◌, refl, sym, ap, ◌∙◌, subst, arith}
+use Rattle.std.specs.Result.{is_err, OnOk}
+use Rattle.std.proofs.Common.{◌≡◌, ◌↔◌, Result, Ok, Err, false, ℕ, zero, suc, ◌<◌, ◌≤◌, ⊎_elim, IsTrue, refl, sym, ap, ◌∙◌, subst, arith}
 use Rattle.std.specs.Prelude.{All, IsSome}
 use Rattle.std.proofs.lemmas.Bool.{cases_lt}
-use Rattle.std.proofs.lemmas.List.Elements.{All-nil, All-cons}
 use Rattle.cable_definitions.specs.declared.site.SiteCode.{SiteCode}
 use Rattle.cable_definitions.specs.declared.site.SiteCode.TheVariants.{TooLong, Form, Shape, Range, BadName, SameName, SamePlace, UnknownName, SamePair, InObstacle, TooMany}
 use Rattle.cable_definitions.specs.Items.{RawItem, Overlong, Draft, may_stand, is_readable, fields_of, Breaks, code_number, IsFirstCode, IsGood}
@@ -122,3 +122,12 @@ refused_exactly d item found first code = (
   λ e. let same : found ≡ code = cc in subst (IsFirstCode d item) same first,
   λ other. ap (λ (c : SiteCode). Err (Refused c)) (IsFirstCode-unique d item found code first other),
 )
+
+-- a good item is not refused
+pub not_refused : (d : Draft) (item : RawItem) → IsGood d item → (code : SiteCode) → (◌≡◌ {A = Result (Unit {0}) BuildFault} (Ok tt) (Err (Refused code))) ↔ IsFirstCode d item code
+not_refused d item good code = (λ e. absurd (cc), λ first. absurd (IsFirstCode-good d item code good first))
+
+-- what a call says of its success, where it didn't fail
+pub OnOk-at : {T E : Type 0} {P : Type 0} (r : Result T E) → is_err r ≡ false → OnOk r P → P
+OnOk-at (Ok v) e h = h
+OnOk-at (Err y) e h = absurd (cc)

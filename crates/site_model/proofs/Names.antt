@@ -1,5 +1,5 @@
 -- The number of a name among the points.
-use Rattle.std.proofs.Common.{◌≡◌, ℕ, ℤ, ◌<◌, ◌≤◌, ◌⊎◌, ⊎_elim, List, length, get_or, Option, Some, None, IsTrue, ◌↔◌, MatchOption, refl, subst, arith}
+use Rattle.std.proofs.Common.{◌≡◌, ℕ, ℤ, ◌<◌, ◌≤◌, ⊎_elim, List, length, get_or, Option, Some, None, IsTrue, ◌↔◌, MatchOption, refl, subst, arith}
 use Rattle.std.specs.Prelude.{Any, slice_get, is_some}
 use Rattle.std.proofs.lemmas.Option.{slice_get_cases}
 use Rattle.cable_definitions.specs.declared.site.Point.{Point}

@@ -1,5 +1,5 @@
 -- The first code of a pair rule, one test after another.
-use Rattle.std.proofs.Common.{◌≡◌, ℕ, ◌<◌, ◌≤◌, ◌⊎◌, inl, inr, ⊎_elim, ℤ, pos, List, [], ◌∷◌, ◌++◌, length, get_or, Option, Some, None, IsTrue, ◌&&◌, ◌||◌, ◌==◌, refl, sym, ap, ◌∙◌, subst, arith}
+use Rattle.std.proofs.Common.{◌≡◌, ℕ, ◌<◌, ◌≤◌, ◌⊎◌, inl, inr, ⊎_elim, ℤ, pos, List, [], ◌∷◌, ◌++◌, length, get_or, Option, Some, None, IsTrue, ◌&&◌, ◌==◌, refl, sym, ap, ◌∙◌, subst, arith}
 use Rattle.std.specs.Prelude.{All, AllPairs, Any, IsSome, slice_get}
 use Rattle.std.proofs.lemmas.Int.{ints}
 use Rattle.std.proofs.lemmas.Bool.{cases_order, or_left, or_right, and_from, eq-eqb}
@@ -9,17 +9,16 @@ use Rattle.cable_definitions.specs.declared.site.Point.{Point}
 use Rattle.cable_definitions.specs.declared.site.Pair.{Pair}
 use Rattle.cable_definitions.specs.declared.site.PairRule.{PairRule}
 use Rattle.cable_definitions.specs.declared.site.PairRule.TheVariants.{Charge, Closed}
-use Rattle.cable_definitions.specs.declared.site.SiteCode.TheVariants.{Form, Shape, Range, BadName, SameName, SamePlace, UnknownName, SamePair, InObstacle, TooMany}
+use Rattle.cable_definitions.specs.declared.site.SiteCode.TheVariants.{Range, BadName, SameName, SamePlace, UnknownName, SamePair, InObstacle, TooMany}
 use Rattle.cable_definitions.specs.Naming.{IsName}
 use Rattle.cable_definitions.specs.Site.{Site, IsPair, IsPairRule, joins}
 use Rattle.cable_definitions.specs.Text.{name_from, name_of}
-use Rattle.cable_definitions.specs.Items.{RawItem, Draft, Overlong, TheEnd, may_stand, Field, within, rule_fields, IsWithin, raw_rule, HasNamed, IsOnNames, IsGood, IsFirstCode, Adds}
+use Rattle.cable_definitions.specs.Items.{RawItem, Draft, Overlong, TheEnd, may_stand, within, rule_fields, IsWithin, raw_rule, HasNamed, IsOnNames, IsGood, IsFirstCode, Adds}
 use Rattle.site_model.specs.Building.{pair_item, rule_item}
 use Rattle.site_model.specs.Drafts.{IsDraft, item_of_pair}
 use Rattle.site_model.proofs.Ranges.{IsWithin-some}
 use Rattle.site_model.proofs.Codes.{KeepsBelow, KeepsBelow-past, KeepsBelow-shaped, IsFirstCode-at, IsGood-kept}
 use Rattle.site_model.proofs.Drafts.{IsDraft-pair, joins_cases}
-use Rattle.site_model.proofs.Names.{Any-named}
 
 -- the number of a rule is given
 rule_given : (amount : Option ℤ) → All (λ f. IsSome f.value) (rule_fields (rule_item amount))

@@ -8,7 +8,7 @@ use Rattle.cable_definitions.specs.declared.place.Place.{Place}
 use Rattle.cable_definitions.specs.declared.site.Kind.{Kind}
 use Rattle.cable_definitions.specs.declared.site.Kind.TheVariants.{Turbine as KnownTurbine, Substation as KnownSubstation, Bend as KnownBend}
 use Rattle.cable_definitions.specs.declared.site.Point.{Point}
-use Rattle.cable_definitions.specs.declared.site.SiteCode.TheVariants.{Form, Shape, Range, BadName, SameName, SamePlace, UnknownName, SamePair, InObstacle, TooMany}
+use Rattle.cable_definitions.specs.declared.site.SiteCode.TheVariants.{Range, BadName, SamePlace, UnknownName, SamePair, InObstacle, TooMany}
 use Rattle.cable_definitions.specs.Naming.{IsName}
 use Rattle.cable_definitions.specs.Site.{IsKind}
 use Rattle.cable_definitions.specs.Items.{RawItem, Draft, may_stand, Field, within, coordinate, kind_fields, IsWithin, IsAt, raw_kind, IsGood, IsFirstCode, Adds}
@@ -61,7 +61,7 @@ kind_within (KnownSubstation feeders power) h =
 kind_within KnownBend h = All-nil _
 
 -- a coordinate of a place
-coordinate_within : (x : ℤ) (z : ℤ) → neg_ℤ (pos 1000000) ≤ℤ z → z ≤ℤ pos 1000000 → Some x ≡ Some z → IsWithin (coordinate (Some x))
+pub coordinate_within : (x : ℤ) (z : ℤ) → neg_ℤ (pos 1000000) ≤ℤ z → z ≤ℤ pos 1000000 → Some x ≡ Some z → IsWithin (coordinate (Some x))
 coordinate_within x z lower upper e =
     let same : x ≡ z = cc in
     IsWithin-some x (neg_ℤ (pos 1000000)) (pos 1000000) (subst (λ (v : ℤ). neg_ℤ (pos 1000000) ≤ℤ v) (sym same) lower) (subst (λ (v : ℤ). v ≤ℤ pos 1000000) (sym same) upper)

@@ -1,5 +1,5 @@
 -- The first code of a cable type, and what a good one adds.
-use Rattle.std.proofs.Common.{◌≡◌, ◌≤◌, ◌<◌, arith, ◌==◌, ◌++◌, [], ◌∷◌, List, length, ℕ, ℤ, pos, Option, Some, None, IsTrue, refl, sym, ap, ◌∙◌, subst, to_z, of_z, FitsSigned}
+use Rattle.std.proofs.Common.{◌≡◌, ◌≤◌, ◌<◌, arith, ◌==◌, ◌++◌, [], ◌∷◌, List, length, ℤ, pos, Option, Some, None, IsTrue, refl, sym, ap, ◌∙◌, subst, to_z, of_z, FitsSigned}
 use Rattle.std.specs.Prelude.{All, IsSome}
 use Rattle.std.specs.Int.{w128}
 use Rattle.std.proofs.lemmas.Int.{ints}

@@ -55,6 +55,12 @@ pub record IsDraft (d : Draft) : Type 0 where
   pub pairs : PairsFit d.site.points d.site.pairs
   pub order : StageFits d.stage d.site
 
+-- a site so far, with room for the corners that are missing and for the obstacle that they complete
+pub record IsBuilder (d : Draft) (corners_room obstacles_room : ℕ) : Type 0 where
+  pub draft : IsDraft d
+  pub corners_fit : length d.corners + d.missing ≤ corners_room
+  pub obstacle_fits : 1 ≤ d.missing → length d.site.obstacles < obstacles_room
+
 -- in version 1 a type has no loss
 abbrev pub FitsVersion : Draft → RawItem → Type 0
 FitsVersion d (AType capacity price loss) = d.site.version ≡ One → loss ≡ Some (pos 0)

@@ -1,13 +1,14 @@
-ghost use Rattle.std.specs.Prelude.{◌≢◌, ℤ, ◌==◌, IfErr, ◌&&◌, ◌≡◌, ◌↔◌, ◌≤◌, IsTrue, OnOk, OnErr, IfOk, MatchResult, MatchOption, pos, Some, [], ◌∷◌, All, Any, nat_le, length, ◌<◌, slice_get};
+ghost use Rattle.std.specs.Prelude.{◌++◌, sum_by, vec_len, vec_capacity, ◌≢◌, ℤ, ◌==◌, IfErr, ◌&&◌, ◌≡◌, ◌↔◌, ◌≤◌, IsTrue, OnOk, OnErr, IfOk, MatchResult, MatchOption, pos, Some, [], ◌∷◌, All, Any, nat_le, length, ◌<◌, slice_get};
 ghost use Rattle.cable_definitions.specs.Text.{name_from};
 ghost use Rattle.site_model.specs.Stages.{stage_number};
 ghost use Rattle.cable_definitions.specs.declared.site.SiteCode.{SiteCode};
 ghost use Rattle.cable_definitions.specs.declared.site.Version.{Version};
 ghost use Rattle.cable_definitions.specs.Naming.{IsName};
+ghost use Rattle.cable_definitions.specs.Plane.{IsOutside};
 ghost use Rattle.cable_definitions.specs.Coordinate.{IsCoordinate};
 ghost use Rattle.cable_definitions.specs.Site.{joins, version_number, latest_version, IsCableType, IsKind, IsPairRule};
 ghost use Rattle.site_model.specs.Drafts.{item_of_type, item_of_point, item_of_pair};
-ghost use Rattle.cable_definitions.specs.Items.{is_settled, Stray, TheEnd, IsGood, IsFirstCode, Adds, IsWithin, IsAt, within, coordinate, kind_fields, rule_fields, fields_of, raw_kind, raw_rule, AType};
+ghost use Rattle.cable_definitions.specs.Items.{is_settled, may_stand, Stray, TheEnd, AnObstacle, ACorner, IsGood, IsFirstCode, Adds, IsWithin, IsAt, within, coordinate, kind_fields, rule_fields, fields_of, raw_kind, raw_rule, AType};
 ghost use Rattle.site_model.specs.Building.{type_item, point_item, pair_item, kind_item, rule_item};
 
 use crate::Site;
@@ -16,8 +17,10 @@ use cable_definitions::place::Place;
 use cable_definitions::site::{
     CableType, Kind, Mode, Name, Obstacle, Pair, PairRule, Point, SiteCode, Version,
 };
+use plane_geometry::outside;
 use std::alloc::{AllocError, Global};
 use std::marker::Model;
+use std::mem::replace;
 
 /// What stands at a point, with its numbers as they are given.
 #[derive(Clone, Copy, Debug, PartialEq, Eq)]
@@ -42,6 +45,7 @@ enum Stage {
 /// A site so far. Items come in file order, and one that breaks a rule changes nothing.
 #[derive(Drop)]
 pub struct SiteBuilder {
+    alloc: Global,
     stage: Stage,
     version: Version,
     mode: Mode,
@@ -64,14 +68,15 @@ impl Stage {
 
 impl Model for SiteBuilder {
     ghost use Rattle.cable_definitions.specs.Items.{Draft};
-    ghost use Rattle.site_model.specs.Drafts.{IsDraft};
+    ghost use Rattle.std.specs.Prelude.{vec_capacity};
+    ghost use Rattle.site_model.specs.Drafts.{IsBuilder};
     ghost use Rattle.site_model.specs.Stages.{stage_number};
 
     ghost Value = { Draft };
 
     ghost view = { λ b. record { stage = stage_number b.stage; site = record { version = b.version; mode = b.mode; types = b.types.items; points = b.points.items; obstacles = b.obstacles.items; pairs = b.pairs.items }; corners = b.corners.items; missing = b.missing } };
 
-    ghost invariant = { λ b. IsDraft (record { stage = stage_number b.stage; site = record { version = b.version; mode = b.mode; types = b.types.items; points = b.points.items; obstacles = b.obstacles.items; pairs = b.pairs.items }; corners = b.corners.items; missing = b.missing }) };
+    ghost invariant = { λ b. IsBuilder (record { stage = stage_number b.stage; site = record { version = b.version; mode = b.mode; types = b.types.items; points = b.points.items; obstacles = b.obstacles.items; pairs = b.pairs.items }; corners = b.corners.items; missing = b.missing }) (vec_capacity b.corners) (vec_capacity b.obstacles) };
 }
 
 /// The greatest coordinate, in metres.
@@ -84,6 +89,7 @@ impl SiteBuilder {
         ensures { IfOk result (λ builder. builder ≡ record { stage = 2; site = record { version = version; mode = mode; types = []; points = []; obstacles = []; pairs = [] }; corners = []; missing = 0 }) }
     {
         Ok(SiteBuilder {
+            alloc,
             stage: Stage::Types,
             version,
             mode,
@@ -204,6 +210,97 @@ impl SiteBuilder {
         })
     }
 
+    /// Begins an obstacle of this many corners, which come next.
+    pub fn add_obstacle(&mut self, corners: i128) -> Result<(), BuildFault>
+        ensures good { OnOk result (IsGood self.old (AnObstacle (Some corners))) }
+        ensures adds { OnOk result (Adds self.old (AnObstacle (Some corners)) self.new) }
+        ensures refused { (code : SiteCode) → ((result ≡ Err (BuildFault.Refused code)) ↔ IsFirstCode self.old (AnObstacle (Some corners)) code) }
+        ensures memory { result ≡ Err BuildFault.Memory → IsGood self.old (AnObstacle (Some corners)) }
+        ensures unchanged { OnErr result (self.new ≡ self.old) }
+    {
+        let count = match self.new_obstacle(corners) {
+            Ok(count) => count,
+            Err(code) => return Err(BuildFault::Refused(code)),
+        };
+        // Room is made for the whole obstacle here, so that no corner wants memory.
+        if self.obstacles.reserve(1).is_err() {
+            return Err(BuildFault::Memory);
+        }
+        if self.corners.reserve(count).is_err() {
+            return Err(BuildFault::Memory);
+        }
+        self.corners.clear();
+        self.missing = count;
+        self.stage = Stage::Obstacles;
+        Ok(())
+    }
+
+    /// The number of corners of an item, or the first code that it breaks.
+    fn new_obstacle(&self, corners: i128) -> Result<usize, SiteCode>
+        ensures good { OnOk result (IsGood self.now (AnObstacle (Some corners))) }
+        ensures count { IfOk result (λ count. corners ≡ pos count) }
+        ensures code { IfErr result (λ code. IsFirstCode self.now (AnObstacle (Some corners)) code) }
+    {
+        if !self.takes_obstacles() {
+            return Err(SiteCode::Form);
+        }
+        let Some(count) = number_within(corners, 3, 1_024) else {
+            return Err(SiteCode::Range);
+        };
+        if self.obstacles.len() >= 64 {
+            return Err(SiteCode::TooMany);
+        }
+        if corner_count(self.obstacles.as_slice()) + count as usize > 1_024 {
+            return Err(SiteCode::TooMany);
+        }
+        Ok(count as usize)
+    }
+
+    /// Adds the next corner of the obstacle that was begun; with the last one it is complete. No
+    /// memory is taken.
+    pub fn add_corner(&mut self, x: i128, y: i128) -> Result<(), BuildFault>
+        ensures good { OnOk result (IsGood self.old (ACorner (Some x) (Some y))) }
+        ensures adds { OnOk result (Adds self.old (ACorner (Some x) (Some y)) self.new) }
+        ensures refused { (code : SiteCode) → ((result ≡ Err (BuildFault.Refused code)) ↔ IsFirstCode self.old (ACorner (Some x) (Some y)) code) }
+        ensures memory { result ≢ Err BuildFault.Memory }
+        ensures unchanged { OnErr result (self.new ≡ self.old) }
+    {
+        let corner = match self.new_corner(x, y) {
+            Ok(corner) => corner,
+            Err(code) => return Err(BuildFault::Refused(code)),
+        };
+        if encloses(
+            self.points.as_slice(),
+            &mut self.corners,
+            corner,
+            self.missing,
+        ) {
+            return Err(BuildFault::Refused(SiteCode::InObstacle));
+        }
+        self.corners.push_reserved(corner);
+        self.missing -= 1;
+        if self.missing > 0 {
+            return Ok(());
+        }
+        complete(self.alloc, &mut self.obstacles, &mut self.corners);
+        Ok(())
+    }
+
+    /// The place of a corner, or the first code that it breaks before that of points inside.
+    fn new_corner(&self, x: i128, y: i128) -> Result<Place, SiteCode>
+        ensures stands { OnOk result (IsTrue (may_stand self.now (ACorner (Some x) (Some y)))) }
+        ensures place { IfOk result (λ corner. IsAt (Some x) (Some y) corner) }
+        ensures code { IfErr result (λ code. IsFirstCode self.now (ACorner (Some x) (Some y)) code) }
+    {
+        if !self.takes_corners() {
+            return Err(SiteCode::Form);
+        }
+        let Some(corner) = place_of(x, y) else {
+            return Err(SiteCode::Range);
+        };
+        Ok(corner)
+    }
+
     /// Adds a pair rule on the points of two names: a charge, or a closing where no amount is given.
     pub fn add_pair(&mut self, a: &[u8], b: &[u8], amount: Option<i128>) -> Result<(), BuildFault>
         ensures good { OnOk result (IsGood self.old (pair_item a.now b.now amount)) }
@@ -297,6 +394,20 @@ impl SiteBuilder {
         self.is_settled() && self.stage.is_at_most(Stage::Points)
     }
 
+    /// Whether an obstacle may stand here.
+    fn takes_obstacles(&self) -> bool
+        ensures { result ≡ (is_settled self.now && nat_le self.now.stage 4) }
+    {
+        self.is_settled() && self.stage.is_at_most(Stage::Obstacles)
+    }
+
+    /// Whether a corner may stand here.
+    fn takes_corners(&self) -> bool
+        ensures { result ≡ ((self.now.stage == 4) && nat_le 1 self.now.missing) }
+    {
+        self.stage == Stage::Obstacles && self.missing >= 1
+    }
+
     /// Whether a pair rule, or the end of the site, may stand here.
     fn takes_pairs(&self) -> bool
         ensures { result ≡ (is_settled self.now && nat_le self.now.stage 5) }
@@ -347,6 +458,58 @@ fn is_name(bytes: &[u8]) -> bool
     ensures { IsTrue result ↔ IsName bytes.now }
 {
     Name::new(bytes).is_some()
+}
+
+/// How many corners the obstacles have together.
+fn corner_count(obstacles: &[Obstacle]) -> usize
+    requires { sum_by length obstacles.now ≤ 1024 }
+    ensures { result ≡ sum_by length obstacles.now }
+{
+    let mut count = 0;
+    for obstacle in obstacles {
+        count += obstacle.as_slice().len();
+    }
+    count
+}
+
+/// Whether some point isn't outside the polygon.
+fn has_inside(points: &[Point], corners: &[Place]) -> bool
+    ensures { IsTrue result ↔ Any (λ p. ¬ (IsOutside p.at corners.now)) points.now }
+{
+    for point in points {
+        if !outside(point.at, corners) {
+            return true;
+        }
+    }
+    false
+}
+
+/// Whether the corner is the last one that is missing, and some point isn't outside the obstacle
+/// that is complete with it. The corners stay as they are.
+fn encloses(points: &[Point], corners: &mut Vec<Place>, corner: Place, missing: usize) -> bool
+    requires { vec_len corners.old < vec_capacity corners.old }
+    ensures answer { IsTrue result
+        ↔ ((missing ≡ 1) × Any (λ p. ¬ (IsOutside p.at (corners.old.items ++ corner ∷ []))) points.now) }
+    ensures items { corners.new.items ≡ corners.old.items }
+    ensures capacity { vec_capacity corners.new ≡ vec_capacity corners.old }
+{
+    if missing != 1 {
+        return false;
+    }
+    corners.push_reserved(corner);
+    let inside = has_inside(points, corners.as_slice());
+    corners.pop();
+    inside
+}
+
+/// Takes the corners as those of an obstacle more.
+fn complete(alloc: Global, obstacles: &mut Vec<Obstacle>, corners: &mut Vec<Place>)
+    requires { vec_len obstacles.old < vec_capacity obstacles.old }
+    ensures obstacles { obstacles.new.items ≡ obstacles.old.items ++ corners.old.items ∷ [] }
+    ensures corners { corners.new.items ≡ [] }
+{
+    let all = replace(corners, Vec::new(alloc));
+    obstacles.push_reserved(Obstacle::new(all));
 }
 
 /// Whether some pair rule is on these two points, in either order.

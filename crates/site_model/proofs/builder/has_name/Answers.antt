@@ -1,4 +1,3 @@
-use Rattle.std.proofs.Common.{subst, sym}
 use Rattle.site_model.proofs.Names.{is_some-number}
 use Rattle.site_model.proofs.builder.has_name.Goals as goal
 

@@ -1,4 +1,4 @@
-use Rattle.std.proofs.Common.{◌≡◌, ℕ, ◌<◌, get_or, IsTrue}
+use Rattle.std.proofs.Common.{ℕ, ◌<◌, get_or, IsTrue}
 use Rattle.cable_definitions.specs.declared.site.Pair.{Pair}
 use Rattle.cable_definitions.specs.Site.{joins}
 use Rattle.site_model.proofs.builder.has_pair.Given as goal

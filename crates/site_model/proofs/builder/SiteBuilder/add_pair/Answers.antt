@@ -9,4 +9,8 @@ invariant_of-self-2 c =
     let p = c.in-Ok.pair in
     let pushed : c.push.new.self.items ≡ c.self.inside.pairs.items ++ p ∷ [] = grind (arith, common_steps) in
     let found = c.in-Ok.ensures in
-    IsDraft-pushed_pair _ c.args.self.now (pair_item c.args.a.now c.args.b.now c.args.amount) p c.push.new.self.items c.self.view_is c.self.invariant found.good found.first found.second found.item pushed
+    record {
+      draft = IsDraft-pushed_pair _ c.args.self.now (pair_item c.args.a.now c.args.b.now c.args.amount) p c.push.new.self.items c.self.view_is c.self.invariant.draft found.good found.first found.second found.item pushed;
+      corners_fit = c.self.invariant.corners_fit;
+      obstacle_fits = c.self.invariant.obstacle_fits;
+    }

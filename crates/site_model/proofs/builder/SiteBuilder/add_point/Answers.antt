@@ -23,7 +23,11 @@ invariant_of-self-2 c =
     let pushed : c.push.new.self.items ≡ c.self.inside.points.items ++ p ∷ [] = grind (arith, common_steps) in
     let good = passed_two (λ x y. IsGood old (point_item name x y c.args.kind)) c.args.x c.args.y c.ranges.x c.ranges.y c.in-Ok.ensures.good in
     let item = passed_two (λ x y. point_item name x y c.args.kind ≡ item_of_point p) c.args.x c.args.y c.ranges.x c.ranges.y c.in-Ok.ensures.item in
-    IsDraft-pushed_point _ old (point_item name c.args.x c.args.y c.args.kind) p c.push.new.self.items c.self.view_is c.self.invariant good item pushed
+    record {
+      draft = IsDraft-pushed_point _ old (point_item name c.args.x c.args.y c.args.kind) p c.push.new.self.items c.self.view_is c.self.invariant.draft good item pushed;
+      corners_fit = c.self.invariant.corners_fit;
+      obstacle_fits = c.self.invariant.obstacle_fits;
+    }
 
 pub returns-clause-adds : goal.returns-clause-adds
 returns-clause-adds c =

@@ -14,4 +14,8 @@ invariant_of-self-2 c =
     let pushed : c.push.new.self.items ≡ c.self.inside.types.items ++ t ∷ [] = grind (arith, common_steps) in
     let good = passed_two (λ x y. IsGood old (type_item old.site.version x y c.args.loss)) c.args.capacity c.args.price c.ranges.capacity c.ranges.price c.in-Ok.ensures.good in
     let item = passed_two (λ x y. type_item old.site.version x y c.args.loss ≡ item_of_type t) c.args.capacity c.args.price c.ranges.capacity c.ranges.price c.in-Ok.ensures.item in
-    IsDraft-pushed_type _ old c.args.capacity c.args.price c.args.loss t c.push.new.self.items c.self.view_is c.self.invariant good item pushed
+    record {
+      draft = IsDraft-pushed_type _ old c.args.capacity c.args.price c.args.loss t c.push.new.self.items c.self.view_is c.self.invariant.draft good item pushed;
+      corners_fit = c.self.invariant.corners_fit;
+      obstacle_fits = c.self.invariant.obstacle_fits;
+    }

@@ -1,4 +1,4 @@
-use Rattle.std.proofs.Common.{◌≡◌, List, ℕ, inl, inr, ⊎_elim, ap, sym, ◌∙◌, subst}
+use Rattle.std.proofs.Common.{◌≡◌, inl, inr, ⊎_elim, ap, sym, ◌∙◌, subst}
 use Rattle.std.specs.Prelude.{Any}
 use Rattle.std.proofs.lemmas.Bool.{false≢true}
 use Rattle.cable_definitions.specs.declared.site.SiteCode.TheVariants.{UnknownName, SamePair}
@@ -88,7 +88,7 @@ returns-clause-good c =
     let pairs_are = c.as_slice-3.ensures.value ∙ ap (λ (e : Draft). e.site.pairs) c.self.view_is in
     let i = c.in-Some-number_of.first in
     let j = c.in-Some-number_of-2.second in
-    let draft = subst IsDraft c.self.view_is c.self.invariant in
+    let draft = subst IsDraft c.self.view_is c.self.invariant.draft in
     IsGood-pair d a b c.args.amount known
     (λ same. ⊎_elim
     (λ (e : a ≡ b). c.if-first-second.false (one_number d.site.points i j draft.points.names_differ first.0 second.0 (first.1 ∙ e ∙ sym second.1)))
