@@ -18,3 +18,9 @@ pub mod Costs
 pub mod DeadNodes
 -- a layout in the box of a full node uses the node's used arcs alone, and costs at least as much as the full layout
 pub mod FullNodes
+-- rows in the box of a node whose arcs are all decided: a row that can be met holds of the used cables
+pub mod Decided
+-- where all arcs are decided and no reason is true, the used arcs are a layout
+pub mod FullLemma
+-- where all arcs are decided and no reason is true, the node is full
+pub mod FullWhole

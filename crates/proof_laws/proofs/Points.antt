@@ -103,7 +103,7 @@ sent_on s cables g p l h = elim (out_cases cables p) [
 ]
 
 -- a run of ones
-sum_by-ones : (a n : ℕ) → sum_by (λ (k : ℕ). 1) (range_with_len a n) ≡ n
+pub sum_by-ones : (a n : ℕ) → sum_by (λ (k : ℕ). 1) (range_with_len a n) ≡ n
 sum_by-ones a zero = refl
 sum_by-ones a (suc n) = omega (arith, sum_by-cons (λ (k : ℕ). 1) a (range_with_len (a + 1) n), sum_by-ones (a + 1) n)
 

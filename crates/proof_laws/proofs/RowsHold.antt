@@ -68,13 +68,13 @@ none_plus_difference : (y z : ℤ) (l : ℕ) → (pos 0 +ℤ (y -ℤ z) *ℤ pos
 none_plus_difference y z l = same_value (plus (nat 0) (times (minus (var y) (var z)) (nat l))) (minus (times (var y) (nat l)) (times (var z) (nat l))) (omega arith)
 
 -- the sum of what a row with one member counts: how many cables start there, ..
-sum-starts : (cables : List Cable) (m : ℕ) → sum_int (λ (c : Cable). one_if (is_member (m ∷ []) c.from)) cables ≡ pos (starts_in cables m)
+pub sum-starts : (cables : List Cable) (m : ℕ) → sum_int (λ (c : Cable). one_if (is_member (m ∷ []) c.from)) cables ≡ pos (starts_in cables m)
 sum-starts cables m =
     sum_int-same (λ (c : Cable). one_if (is_member (m ∷ []) c.from)) (λ c. pos (cond (c.from == m) 1 0)) cables (λ c. ap one_if (member-one m c.from) ∙ one_if-pos (c.from == m))
     ∙ sum_int-pos (λ (c : Cable). cond (c.from == m) 1 0) cables
 
 -- .. how many end there, ..
-sum-ends : (cables : List Cable) (m : ℕ) → sum_int (λ (c : Cable). one_if (is_member (m ∷ []) c.to)) cables ≡ pos (ends_in cables m)
+pub sum-ends : (cables : List Cable) (m : ℕ) → sum_int (λ (c : Cable). one_if (is_member (m ∷ []) c.to)) cables ≡ pos (ends_in cables m)
 sum-ends cables m =
     sum_int-same (λ (c : Cable). one_if (is_member (m ∷ []) c.to)) (λ c. pos (cond (c.to == m) 1 0)) cables (λ c. ap one_if (member-one m c.to) ∙ one_if-pos (c.to == m))
     ∙ sum_int-pos (λ (c : Cable). cond (c.to == m) 1 0) cables
@@ -95,7 +95,7 @@ sum-loads_in s cables m =
     ∙ sum_int-pos (λ (c : Cable). cond (c.to == m) (load s cables c.from) 0) cables
 
 -- the negative of a sum
-sum-negative : {X : Type 0} → (f : X → ℤ) (xs : List X) → sum_int (λ x. pos 0 -ℤ f x) xs ≡ (pos 0 -ℤ sum_int f xs)
+pub sum-negative : {X : Type 0} → (f : X → ℤ) (xs : List X) → sum_int (λ x. pos 0 -ℤ f x) xs ≡ (pos 0 -ℤ sum_int f xs)
 sum-negative {X} f xs = sum_int-minus (λ (x : X). pos 0) f xs ∙ ap (λ (z : ℤ). z -ℤ sum_int f xs) (sum_int-zero xs)
 
 -- the left side of a row over the cables of a legal layout

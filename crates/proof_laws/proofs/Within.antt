@@ -29,7 +29,7 @@ pub record UsedArc (arcs : List Arc) (marks : List Mark) (from to : ℕ) : Type 
   pub ends : arc.to ≡ to
 
 -- the same among longer lists
-pub used_arc-later : (arcs : List Arc) (marks : List Mark) (from to : ℕ) (a : Arc) (m : Mark) → UsedArc arcs marks from to → UsedArc (a ∷ arcs) (m ∷ marks) from to
+abbrev pub used_arc-later : (arcs : List Arc) (marks : List Mark) (from to : ℕ) (a : Arc) (m : Mark) → UsedArc arcs marks from to → UsedArc (a ∷ arcs) (m ∷ marks) from to
 used_arc-later arcs marks from to a m u = record { place = suc u.place; arc = u.arc; is_arc = u.is_arc; is_used = u.is_used; starts = u.starts; ends = u.ends }
 
 -- each used cable is that of a used arc

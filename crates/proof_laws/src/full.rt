@@ -5,12 +5,14 @@ ghost use Rattle.cable_definitions.specs.declared.cable.Arc.{Arc};
 ghost use Rattle.cable_definitions.specs.declared.cable.Cable.{Cable};
 ghost use Rattle.cable_definitions.specs.declared.row.Mark.{Mark};
 ghost use Rattle.cable_definitions.specs.declared.row.Mark.TheVariants.{Used};
-ghost use Rattle.cable_definitions.specs.Site.{Site};
+ghost use Rattle.cable_definitions.specs.declared.row.Why.{Why};
+ghost use Rattle.cable_definitions.specs.Site.{Site, IsValid};
 ghost use Rattle.cable_definitions.specs.Arcs.{AreArcs};
 ghost use Rattle.cable_definitions.specs.Layout.{IsLegal, cost};
-ghost use Rattle.cable_definitions.specs.Row.{has_arc};
+ghost use Rattle.cable_definitions.specs.Row.{Row, has_arc};
 ghost use Rattle.cable_definitions.specs.Choice.{IsInBox};
-ghost use Rattle.cable_definitions.specs.Tree.{IsFull};
+ghost use Rattle.cable_definitions.specs.Tree.{IsDead, IsFull};
+ghost use Rattle.proof_laws.specs.Decided.{AreDecided, HasPointRows};
 
 /// Where a node is full, each legal layout in its box has exactly the arcs marked used, and costs at least as much as the full layout.
 pub fn full_node_is_alone()
@@ -19,4 +21,11 @@ pub fn full_node_is_alone()
         → (k : ℕ) (a : Arc) → slice_get arcs k ≡ Some a → IsTrue (has_arc cables a) ↔ (slice_get marks k ≡ Some Used) }
     ensures cost { (s : Site) (arcs : List Arc) (marks : List Mark) (full cables : List Cable) → IsFull s arcs marks full
         → IsLegal s cables → IsInBox arcs marks cables → cost s full ≤ cost s cables }
+{}
+
+/// Where all arcs are decided and all well-formed `Out`, `Inlet` and `Bend` rows are listed, a node of which no reason is true is full.
+pub fn dead_or_full()
+    ensures { (s : Site) (arcs : List Arc) (rows : List Row) (marks : List Mark) (bound : ℕ) → IsValid s → AreArcs s arcs
+        → AreDecided arcs marks → HasPointRows s arcs rows → ((why : Why) → ¬ (IsDead s arcs rows marks bound why))
+        → (full : List Cable) × IsFull s arcs marks full }
 {}
