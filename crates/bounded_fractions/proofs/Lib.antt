@@ -2,3 +2,5 @@
 pub mod Casts
 -- the steps of sums, products and quotients of fractions
 pub mod Steps
+-- a fraction is its value
+pub mod Values

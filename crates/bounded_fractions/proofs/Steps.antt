@@ -293,7 +293,7 @@ sign_positive f h = not_negative f.num (ap (λ z. lt_z z (pos 0)) (sym (back_num
 at_least_one : (z : ℤ) → z ≢ pos 0 → pos 0 ≤ℤ z → pos 1 ≤ℤ z
 at_least_one z other h = by_lt_z (pos 0) z (λ lt. omega (arith, ints)) (λ ge. absurd (other (omega (arith, ints))))
 
-den_is : (f : Fraction) → f.den ≡ pos (unsigned_abs f.den)
+pub den_is : (f : Fraction) → f.den ≡ pos (unsigned_abs f.den)
 den_is f = let h : pos 1 ≤ℤ f.den = f.positive in positive_is f.den (omega (arith, ints))
 
 module _ (f : Fraction) (test : lt_z (to_z w64 (of_z w64 f.num)) (pos 0) ≡ true) where
