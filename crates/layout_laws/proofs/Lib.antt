@@ -18,3 +18,5 @@ pub mod Typing
 pub mod Typed
 -- costs at greater loads
 pub mod Monotone
+-- what every legal layout costs at least
+pub mod Nearest

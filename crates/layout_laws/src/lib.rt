@@ -4,6 +4,7 @@
 pub mod costs;
 pub mod loads;
 pub mod order;
+pub mod straight;
 pub mod types;
 pub mod uses;
 pub mod walks;
