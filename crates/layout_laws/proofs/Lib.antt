@@ -20,3 +20,5 @@ pub mod Typed
 pub mod Monotone
 -- what every legal layout costs at least
 pub mod Nearest
+-- the straight layout
+pub mod Straightest

@@ -1,5 +1,5 @@
 -- What every legal layout costs at least: the least cost out of each turbine.
-use Rattle.std.proofs.Common.{◌≡◌, ℕ, suc, ◌+◌, ◌<◌, ◌≤◌, inl, inr, List, [], ◌∷◌, length, sum, sum_by, slice_get, Option, Some, None, IsSome, IsTrue, refl, ap, sym, ◌∙◌, subst, arith, eq-eqb, eqb-true}
+use Rattle.std.proofs.Common.{◌≡◌, ℕ, suc, ◌+◌, ◌≤◌, inl, inr, List, [], ◌∷◌, length, sum, sum_by, slice_get, Option, Some, None, IsSome, IsTrue, refl, ap, sym, ◌∙◌, subst, arith, eq-eqb, eqb-true}
 use Rattle.std.specs.Prelude.{◌==◌}
 use Rattle.std.specs.List.{range_with_len}
 use Rattle.std.proofs.lemmas.List.Sums.{sum_by-cons}
@@ -48,7 +48,7 @@ starts_in-turbine s cables g p turbine =
     let o = out-from_Starts cables p (g.joined p turbine) in
     let some = count_by-at (λ (c : Cable). c.from == p) cables o.place o.cable o.is_cable (eq-eqb o.cable.from p o.from) in
     let most = count_by-at_most_one (λ (c : Cable). c.from == p) cables
-      (λ i j c d e f h u v. g.start j i d c f e h (eqb-true c.from p u ∙ sym (eqb-true d.from p v))) in
+    (λ i j c d e f h u v. g.start j i d c f e h (eqb-true c.from p u ∙ sym (eqb-true d.from p v))) in
     omega (arith, some, most)
 
 -- where each turbine's value is at least each least cost out of it, the sum of such costs is at most the sum of the values of all points
@@ -90,11 +90,11 @@ Least-nearest s total n cables g =
     let f = λ (c : Cable). cost_of s c.from c.to c.grade (load s cables c.from) in
     let value = λ (p : ℕ). value_at f (cable_out cables p) in
     let a : cost s cables ≡ sum_by value (range_with_len 0 (length s.points)) =
-      sum_by-keys (λ (c : Cable). c.from) f (length s.points) cables g.start (λ i c e. (g.range i).from c e) in
+    sum_by-keys (λ (c : Cable). c.from) f (length s.points) cables g.start (λ i c e. (g.range i).from c e) in
     let b = nearest-le_from s value (λ p least turbine l.
-      let o = out-from_Starts cables p (g.joined p turbine) in
-      let same : f o.cable ≡ value p = ap (value_at f) (sym o.first) in
-      let m = cable-le_least s cables g.range g.candidate g.capacity o.place o.cable o.is_cable least (subst (λ (q : ℕ). IsLeastOut s q least) (sym o.from) l) in
-      subst (λ (k : ℕ). least ≤ k) same m) 0 s.points n.0 (λ i x e. ap (slice_get s.points) (let z : 0 + i ≡ i = omega arith in z) ∙ e) n.1 in
+    let o = out-from_Starts cables p (g.joined p turbine) in
+    let same : f o.cable ≡ value p = ap (value_at f) (sym o.first) in
+    let m = cable-le_least s cables g.range g.candidate g.capacity o.place o.cable o.is_cable least (subst (λ (q : ℕ). IsLeastOut s q least) (sym o.from) l) in
+    subst (λ (k : ℕ). least ≤ k) same m) 0 s.points n.0 (λ i x e. ap (slice_get s.points) (let z : 0 + i ≡ i = omega arith in z) ∙ e) n.1 in
     let c : total ≡ sum n.0 = n.2 in
     omega (arith, a, b, c)
