@@ -1,5 +1,5 @@
 -- The cable at a place of a list, and the first one that starts in a point.
-use Rattle.std.proofs.Common.{◌≡◌, ◌≢◌, ℕ, zero, suc, ◌<◌, ◌≤◌, List, [], ◌∷◌, length, get_or, Bool, true, false, cond, Option, Some, None, IsSome, inl, inr, arith, refl, sym, ap, ◌∙◌}
+use Rattle.std.proofs.Common.{◌≡◌, ◌≢◌, ℕ, zero, suc, ◌<◌, ◌≤◌, List, [], ◌∷◌, length, get_or, Bool, true, false, cond, Some, None, inl, inr, arith, refl, sym, ap, ◌∙◌}
 use Rattle.std.specs.Prelude.{slice_get, ◌==◌}
 use Rattle.std.proofs.lemmas.Bool.{eqb-true, eqb-false, cases_lt}
 use Rattle.cable_definitions.specs.declared.cable.Cable.{Cable}
@@ -7,7 +7,7 @@ use Rattle.cable_definitions.specs.declared.site.Point.{Point}
 use Rattle.cable_definitions.specs.Site.{Site}
 use Rattle.cable_definitions.specs.Arcs.{IsPoint}
 use Rattle.cable_definitions.specs.Walk.{cable_out}
-use Rattle.cable_definitions.specs.Layout.{IsCable, Starts}
+use Rattle.cable_definitions.specs.Layout.{IsCable}
 
 -- the item at a place below the length
 pub slice_get_at : {X : Type 0} → (xs : List X) (i : ℕ) (d : X) → i < length xs → slice_get xs i ≡ Some (get_or xs i d)
@@ -55,14 +55,6 @@ out_none (x ∷ xs) p i c e h = by_test x xs p i c (x.from == p) refl e h (λ j.
     by_test x xs p i c true t e h further = absurd (let f = rw t at e in cc)
     by_test x xs p zero c false t e h further = λ s. eqb-false x.from p t (cc)
     by_test x xs p (suc i) c false t e h further = further i (rw t at e) h
-
--- a point in which a cable of the list starts has a first cable
-pub starts_at : (cables : List Cable) (i : ℕ) (c : Cable) → IsCable cables i c → Starts cables c.from
-starts_at cables i c h = by_cable (cable_out cables c.from) refl
-  where
-    by_cable : (o : Option Cable) → cable_out cables c.from ≡ o → IsSome o
-    by_cable (Some d) e = refl
-    by_cable None e = absurd (out_none cables c.from i c e h refl)
 
 -- what is kept below n and from n on is kept at each place
 pub at_each_place : (P : ℕ → Type 0) (n : ℕ) → ((i : ℕ) → i < n → P i) → ((i : ℕ) → n ≤ i → P i) → (i : ℕ) → P i
