@@ -4,3 +4,5 @@ pub mod Words
 pub mod Keyword
 -- the fields of a line that is written
 pub mod Line
+-- the parts of a site that are read so far
+pub mod Plain

@@ -21,7 +21,7 @@ pub enum Keyword {
 }
 
 // Whether the word is this one.
-fn is_word(word: &[u8], text: &[u8]) -> bool
+pub fn is_word(word: &[u8], text: &[u8]) -> bool
     ensures { IsTrue result ↔ (word.now ≡ text.now) }
 {
     word == text

@@ -1,8 +1,10 @@
 //! Sites in line form, read and written.
 #![tactic(auto)]
 
+mod decode;
 mod keyword;
 mod line;
+mod point;
 mod words;
 mod write;
 
