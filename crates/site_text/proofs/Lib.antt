@@ -4,3 +4,4 @@ pub mod PointLines
 pub mod SiteLines
 pub mod Numbers
 pub mod PointWords
+pub mod LineLaws

@@ -141,7 +141,7 @@ pub parts_from_line : (ws : List (List ℕ)) (text : List ℕ) → ws ≢ [] →
 parts_from_line ws text full h e = sym (parts-words ws full h) ∙ ap parts (append_cancel_right (words ws) text (10 ∷ []) e)
 
 -- a point has some words
-some_words : (name : List ℕ) (at : Place) (kind : Kind) → point_words name at kind ≢ []
+pub some_words : (name : List ℕ) (at : Place) (kind : Kind) → point_words name at kind ≢ []
 some_words name at (Turbine power) e = cc
 some_words name at (Substation feeders power) e = cc
 some_words name at Bend e = cc

@@ -4,9 +4,11 @@
 mod decode;
 mod keyword;
 mod line;
+mod plain;
 mod point;
 mod words;
 mod write;
 
 pub use line::{Field, push_line};
+pub use plain::PlainFault;
 pub use write::{name_of, write_site};
