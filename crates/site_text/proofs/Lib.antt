@@ -5,3 +5,6 @@ pub mod SiteLines
 pub mod Numbers
 pub mod PointWords
 pub mod LineLaws
+pub mod PlainReading
+pub mod PointsReading
+pub mod PlainText

@@ -135,7 +135,7 @@ agree (q ∷ qs) (p ∷ ps) left rest h k e =
     let plain = All-head IsPlainPoint q qs h in
     let other = All-head IsPlainPoint p ps k in
     let f : line (point_words q.name q.at q.kind) ++ (concat (map point_line qs) ++ left) ≡ line (point_words p.name p.at p.kind) ++ (points_text ps ++ rest) =
-        sym (append_assoc (point_line q) (concat (map point_line qs)) left) ∙ e ∙ ap (λ l. l ++ rest) (append_assoc (point_line p) (concat (map point_line ps)) (line end_words)) ∙ append_assoc (point_line p) (points_text ps) rest in
+    sym (append_assoc (point_line q) (concat (map point_line qs)) left) ∙ e ∙ ap (λ l. l ++ rest) (append_assoc (point_line p) (concat (map point_line ps)) (line end_words)) ∙ append_assoc (point_line p) (points_text ps) rest in
     let same = lines_apart (point_words q.name q.at q.kind) (point_words p.name p.at p.kind) (concat (map point_line qs) ++ left) (points_text ps ++ rest) (some_words q.name q.at q.kind) (some_words p.name p.at p.kind) (fields_are_words q.name q.at q.kind plain.name plain.kind) (fields_are_words p.name p.at p.kind other.name other.kind) f in
     let further = agree qs ps left rest (All-tail IsPlainPoint q qs h) (All-tail IsPlainPoint p ps k) same.1 in
     record {

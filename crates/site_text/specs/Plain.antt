@@ -49,6 +49,10 @@ Never (Some bytes) P = P bytes → ⊥
 abbrev pub StartsWithLine : List ℕ → Type 0
 StartsWithLine bytes = (text rest : List ℕ) × HasNoNewline text × (length text ≤ 4096) × (bytes ≡ text ++ 10 ∷ rest)
 
+-- this line stands in front
+abbrev pub StartsWith : List ℕ → List ℕ → Type 0
+StartsWith text bytes = (rest : List ℕ) × (bytes ≡ text ++ 10 ∷ rest)
+
 -- the line of a cable type stands in front
 abbrev pub StartsWithType : List ℕ → Type 0
 StartsWithType bytes = (t : CableType) × (rest : List ℕ) × IsPlainType t × (bytes ≡ type_line One t ++ rest)

@@ -10,5 +10,5 @@ mod words;
 mod write;
 
 pub use line::{Field, push_line};
-pub use plain::PlainFault;
+pub use plain::{PlainFault, read_plain_site};
 pub use write::{name_of, write_site};
