@@ -450,3 +450,14 @@ IsValid-draft d draft some = record {
 -- a site that has ended is valid
 pub IsValid-ended : (d : Draft) → IsDraft d → d.stage ≡ 6 → IsValid d.site
 IsValid-ended d draft ended = IsValid-draft d draft (draft.order.some_types (omega arith))
+
+-- the site so far in the beginning, after the version and the mode
+pub IsDraft-begins : (version : Version) (mode : Mode) → version_number version ≤ latest_version → IsDraft (record { stage = 2; site = record { version = version; mode = mode; types = []; points = []; obstacles = []; pairs = [] }; corners = []; missing = 0 })
+IsDraft-begins version mode read = record {
+  version = read;
+  types = record { count = omega arith; each = All-nil _ };
+  points = IsDraft-empty.points;
+  obstacles = IsDraft-empty.obstacles;
+  pairs = IsDraft-empty.pairs;
+  order = record { no_types = λ h. refl; some_types = λ h. absurd (omega arith); no_obstacles = λ h. refl; no_pairs = λ h. refl };
+}

@@ -1,3 +1,4 @@
+pub mod Ruled
 pub mod Corners
 pub mod Pairs
 pub mod Types

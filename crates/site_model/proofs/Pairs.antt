@@ -92,7 +92,7 @@ one_number points i j differ li lj same =
         (slice_get_cases points k).1
 
 -- the pair is joined by a rule on these points
-joins_from : (a b : ℕ) (p : Pair) → ((p.a ≡ a) × (p.b ≡ b)) ⊎ ((p.a ≡ b) × (p.b ≡ a)) → IsTrue (joins a b p)
+pub joins_from : (a b : ℕ) (p : Pair) → ((p.a ≡ a) × (p.b ≡ b)) ⊎ ((p.a ≡ b) × (p.b ≡ a)) → IsTrue (joins a b p)
 joins_from a b p (inl (first, second)) = or_left ((p.a == a) && (p.b == b)) ((p.a == b) && (p.b == a)) (and_from (p.a == a) (p.b == b) (eq-eqb p.a a first) (eq-eqb p.b b second))
 joins_from a b p (inr (first, second)) = or_right ((p.a == a) && (p.b == b)) ((p.a == b) && (p.b == a)) (and_from (p.a == b) (p.b == a) (eq-eqb p.a b first) (eq-eqb p.b a second))
 

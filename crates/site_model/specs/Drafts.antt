@@ -1,5 +1,5 @@
 -- What holds of a site so far, whichever good items have led to it.
-use Rattle.std.specs.Prelude.{◌≡◌, ◌≢◌, ℕ, ◌+◌, ◌≤◌, ◌<◌, List, [], length, IsTrue, sum_by, All, AllPairs, Some, pos}
+use Rattle.std.specs.Prelude.{Bool, ◌≡◌, ◌≢◌, ℕ, ◌+◌, ◌≤◌, ◌<◌, List, [], length, IsTrue, sum_by, All, AllPairs, Some, pos}
 use Rattle.cable_definitions.specs.declared.place.Place.{Place}
 use Rattle.cable_definitions.specs.declared.site.Version.{Version}
 use Rattle.cable_definitions.specs.declared.site.Version.TheVariants.{One}
@@ -10,6 +10,7 @@ use Rattle.cable_definitions.specs.Naming.{IsName}
 use Rattle.cable_definitions.specs.Plane.{SamePlace, IsOutside}
 use Rattle.cable_definitions.specs.Site.{Site, version_number, latest_version, IsCableType, IsKind, IsObstacle, IsPair, joins}
 use Rattle.cable_definitions.specs.Text.{name_of}
+use Rattle.site_model.specs.Ruled.{IsRuledTable}
 use Rattle.cable_definitions.specs.Items.{Draft, RawItem, AVersion, AType, APoint, ACorner, APair, raw_kind, raw_rule}
 
 -- at most 8 types, each in range
@@ -55,11 +56,12 @@ pub record IsDraft (d : Draft) : Type 0 where
   pub pairs : PairsFit d.site.points d.site.pairs
   pub order : StageFits d.stage d.site
 
--- a site so far, with room for the corners that are missing and for the obstacle that they complete
-pub record IsBuilder (d : Draft) (corners_room obstacles_room : ℕ) : Type 0 where
+-- a site so far, with room for the corners that are missing and for the obstacle that they complete, and the table of its pair rules
+pub record IsBuilder (d : Draft) (corners_room obstacles_room : ℕ) (ruled : List Bool) : Type 0 where
   pub draft : IsDraft d
   pub corners_fit : length d.corners + d.missing ≤ corners_room
   pub obstacle_fits : 1 ≤ d.missing → length d.site.obstacles < obstacles_room
+  pub table : IsRuledTable ruled d.site.pairs
 
 -- in version 1 a type has no loss
 abbrev pub FitsVersion : Draft → RawItem → Type 0

@@ -1,3 +1,4 @@
+pub mod Ruled
 pub mod Drafts
 pub mod Stages
 pub mod Building

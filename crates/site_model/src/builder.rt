@@ -1,4 +1,4 @@
-ghost use Rattle.std.specs.Prelude.{◌++◌, sum_by, vec_len, vec_capacity, ◌≢◌, ℤ, ◌==◌, IfErr, ◌&&◌, ◌≡◌, ◌↔◌, ◌≤◌, IsTrue, OnOk, OnErr, IfOk, MatchResult, MatchOption, pos, Some, [], ◌∷◌, All, Any, nat_le, length, ◌<◌, slice_get};
+ghost use Rattle.std.specs.Prelude.{true, false, slice_set, slice_index_or, ◌++◌, sum_by, vec_len, vec_capacity, ◌≢◌, ℤ, ◌==◌, IfErr, ◌&&◌, ◌≡◌, ◌↔◌, ◌≤◌, IsTrue, OnOk, OnErr, IfOk, MatchResult, MatchOption, pos, Some, [], ◌∷◌, All, Any, nat_le, length, ◌<◌, slice_get};
 ghost use Rattle.cable_definitions.specs.Text.{name_from};
 ghost use Rattle.site_model.specs.Stages.{stage_number};
 ghost use Rattle.cable_definitions.specs.declared.site.SiteCode.{SiteCode};
@@ -6,9 +6,10 @@ ghost use Rattle.cable_definitions.specs.declared.site.Version.{Version};
 ghost use Rattle.cable_definitions.specs.Naming.{IsName};
 ghost use Rattle.cable_definitions.specs.Plane.{IsOutside};
 ghost use Rattle.cable_definitions.specs.Coordinate.{IsCoordinate};
-ghost use Rattle.cable_definitions.specs.Site.{joins, version_number, latest_version, IsCableType, IsKind, IsPairRule};
+ghost use Rattle.cable_definitions.specs.Site.{version_number, latest_version, IsCableType, IsKind, IsPairRule};
 ghost use Rattle.site_model.specs.Drafts.{item_of_type, item_of_point, item_of_pair};
 ghost use Rattle.cable_definitions.specs.Items.{is_settled, may_stand, Stray, TheEnd, AnObstacle, ACorner, IsGood, IsFirstCode, Adds, IsWithin, IsAt, within, coordinate, kind_fields, rule_fields, fields_of, raw_kind, raw_rule, AType};
+ghost use Rattle.site_model.specs.Ruled.{pair_place};
 ghost use Rattle.site_model.specs.Building.{type_item, point_item, pair_item, kind_item, rule_item};
 
 use crate::Site;
@@ -53,6 +54,7 @@ pub struct SiteBuilder {
     points: Vec<Point>,
     obstacles: Vec<Obstacle>,
     pairs: Vec<Pair>,
+    ruled: Vec<bool>,
     corners: Vec<Place>,
     missing: usize,
 }
@@ -76,7 +78,7 @@ impl Model for SiteBuilder {
 
     ghost view = { λ b. record { stage = stage_number b.stage; site = record { version = b.version; mode = b.mode; types = b.types.items; points = b.points.items; obstacles = b.obstacles.items; pairs = b.pairs.items }; corners = b.corners.items; missing = b.missing } };
 
-    ghost invariant = { λ b. IsBuilder (record { stage = stage_number b.stage; site = record { version = b.version; mode = b.mode; types = b.types.items; points = b.points.items; obstacles = b.obstacles.items; pairs = b.pairs.items }; corners = b.corners.items; missing = b.missing }) (vec_capacity b.corners) (vec_capacity b.obstacles) };
+    ghost invariant = { λ b. IsBuilder (record { stage = stage_number b.stage; site = record { version = b.version; mode = b.mode; types = b.types.items; points = b.points.items; obstacles = b.obstacles.items; pairs = b.pairs.items }; corners = b.corners.items; missing = b.missing }) (vec_capacity b.corners) (vec_capacity b.obstacles) b.ruled.items };
 }
 
 /// The greatest coordinate, in metres.
@@ -97,6 +99,7 @@ impl SiteBuilder {
             points: Vec::with_capacity(alloc, 256)?,
             obstacles: Vec::with_capacity(alloc, 64)?,
             pairs: Vec::new(alloc),
+            ruled: unruled(alloc, 65_536)?,
             corners: Vec::new(alloc),
             missing: 0,
         })
@@ -316,6 +319,7 @@ impl SiteBuilder {
         if self.pairs.push(pair).is_err() {
             return Err(BuildFault::Memory);
         }
+        mark(&mut self.ruled, pair.a, pair.b);
         self.stage = Stage::Pairs;
         Ok(())
     }
@@ -349,7 +353,7 @@ impl SiteBuilder {
         if first == second {
             return Err(SiteCode::SamePair);
         }
-        if has_pair(self.pairs.as_slice(), first, second) {
+        if has_pair(self.ruled.as_slice(), first, second) {
             return Err(SiteCode::SamePair);
         }
         Ok(Pair {
@@ -512,23 +516,42 @@ fn complete(alloc: Global, obstacles: &mut Vec<Obstacle>, corners: &mut Vec<Plac
     obstacles.push_reserved(Obstacle::new(all));
 }
 
-/// Whether some pair rule is on these two points, in either order.
-fn has_pair(pairs: &[Pair], a: u32, b: u32) -> bool
-    ensures { IsTrue result ↔ Any (λ p. IsTrue (joins a b p)) pairs.now }
+/// A table of this many marks, none of which is set.
+fn unruled(alloc: Global, size: usize) -> Result<Vec<bool>, AllocError>
+    ensures size { IfOk result (λ ruled. length ruled.items ≡ size) }
+    ensures unset { IfOk result (λ ruled. All (λ is_ruled. is_ruled ≡ false) ruled.items) }
 {
-    for pair in pairs {
-        if is_on(pair, a, b) {
-            return true;
-        }
-    }
-    false
+    vec![in alloc; false; size]
 }
 
-/// Whether the pair rule is on these two points, in either order.
-fn is_on(pair: &Pair, a: u32, b: u32) -> bool
-    ensures { result ≡ joins a b pair.now }
+/// The place of two points in a table that has 256 points in a row.
+fn pair_place(a: u32, b: u32) -> usize
+    requires first { a < 256 }
+    requires second { b < 256 }
+    ensures { result ≡ pair_place a b }
 {
-    (pair.a == a && pair.b == b) || (pair.a == b && pair.b == a)
+    a as usize * 256 + b as usize
+}
+
+/// Whether two points are marked.
+fn has_pair(ruled: &[bool], a: u32, b: u32) -> bool
+    requires size { length ruled.now ≡ 65536 }
+    requires first { a < 256 }
+    requires second { b < 256 }
+    ensures { result ≡ slice_index_or ruled.now (pair_place a b) false }
+{
+    ruled[pair_place(a, b)]
+}
+
+/// Marks two points, in either order.
+fn mark(ruled: &mut Vec<bool>, a: u32, b: u32)
+    requires size { length ruled.old.items ≡ 65536 }
+    requires first { a < 256 }
+    requires second { b < 256 }
+    ensures { ruled.new.items ≡ slice_set (slice_set ruled.old.items (pair_place a b) true) (pair_place b a) true }
+{
+    ruled[pair_place(a, b)] = true;
+    ruled[pair_place(b, a)] = true;
 }
 
 /// Whether some point stands at this place.

@@ -47,6 +47,7 @@ invariant_of-self-then-self-gt0 c =
       draft = IsDraft-more_corner _ old x y corner c.push_reserved.new.self.items (c.self.inside.missing - 1) c.self.view_is c.self.invariant.draft good at pushed (omega arith) (omega arith);
       corners_fit = omega (arith, ap length pushed, length_push c.self.inside.corners.items corner, c.push_reserved.ensures.capacity, c.encloses.ensures.capacity, c.self.invariant.corners_fit);
       obstacle_fits = λ h. c.self.invariant.obstacle_fits (omega arith);
+      table = c.self.invariant.table;
     }
 
 pub returns-then-self-gt0-clause-good : goal.returns-then-self-gt0-clause-good
@@ -110,6 +111,7 @@ invariant_of-self-2 c =
       draft = IsDraft-last_corner _ old x y corner c.complete.new.obstacles.items c.complete.new.corners.items (c.self.inside.missing - 1) c.self.view_is c.self.invariant.draft good at whole c.complete.ensures.corners (omega arith) (omega arith);
       corners_fit = omega (arith, ap length c.complete.ensures.corners);
       obstacle_fits = λ h. absurd (omega arith);
+      table = c.self.invariant.table;
     }
 
 pub returns-clause-good : goal.returns-clause-good

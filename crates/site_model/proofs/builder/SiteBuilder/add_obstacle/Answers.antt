@@ -17,4 +17,5 @@ invariant_of-self-2 c =
       draft = IsDraft-begun _ old z c.in-Ok.count c.reserve.new.self.items c.clear.new.self.items c.self.view_is c.self.invariant.draft good is c.reserve.ensures.items c.clear.ensures.items;
       corners_fit = omega (arith, corner_room, ap length c.clear.ensures.items, c.clear.ensures.capacity);
       obstacle_fits = λ h. omega (arith, obstacle_room, c.reserve.new.self.ok.0);
+      table = c.self.invariant.table;
     }

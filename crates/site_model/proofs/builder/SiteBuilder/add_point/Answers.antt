@@ -27,6 +27,7 @@ invariant_of-self-2 c =
       draft = IsDraft-pushed_point _ old (point_item name c.args.x c.args.y c.args.kind) p c.push.new.self.items c.self.view_is c.self.invariant.draft good item pushed;
       corners_fit = c.self.invariant.corners_fit;
       obstacle_fits = c.self.invariant.obstacle_fits;
+      table = c.self.invariant.table;
     }
 
 pub returns-clause-adds : goal.returns-clause-adds

@@ -18,4 +18,5 @@ invariant_of-self-2 c =
       draft = IsDraft-pushed_type _ old c.args.capacity c.args.price c.args.loss t c.push.new.self.items c.self.view_is c.self.invariant.draft good item pushed;
       corners_fit = c.self.invariant.corners_fit;
       obstacle_fits = c.self.invariant.obstacle_fits;
+      table = c.self.invariant.table;
     }

@@ -1,4 +1,6 @@
-use Rattle.std.proofs.Common.{◌≡◌, inl, inr, ⊎_elim, ap, sym, ◌∙◌, subst}
+use Rattle.site_model.specs.Ruled.{pair_place}
+use Rattle.std.specs.Prelude.{slice_index_or}
+use Rattle.std.proofs.Common.{Bool, List, false, length, ◌<◌, arith, ◌≡◌, inl, inr, ⊎_elim, ap, sym, ◌∙◌, subst}
 use Rattle.std.specs.Prelude.{Any}
 use Rattle.std.proofs.lemmas.Bool.{false≢true}
 use Rattle.cable_definitions.specs.declared.site.SiteCode.TheVariants.{UnknownName, SamePair}
@@ -66,11 +68,17 @@ returns-then-has_pair-clause-code c =
     let others_are = c.as_slice-2.ensures.value ∙ ap (λ (e : Draft). e.site.points) c.self.view_is in
     let second = numbered_same c.as_slice-2.result.now d.site.points b c.in-Some-number_of-2.second others_are c.in-Some-number_of-2.ensures in
     let known = KeepsBelow-pair_known d a b c.args.amount named (Any-named d.site.points a c.in-Some-number_of.first first.0 first.1) (Any-named d.site.points b c.in-Some-number_of-2.second second.0 second.1) in
-    let pairs_are = c.as_slice-3.ensures.value ∙ ap (λ (e : Draft). e.site.pairs) c.self.view_is in
+    let pairs_are = ap (λ (e : Draft). e.site.pairs) c.self.view_is in
+    let points_count = ap (λ (e : Draft). length e.site.points) c.self.view_is in
+    let count = c.self.invariant.draft.points.count in
     let i = c.in-Some-number_of.first in
     let j = c.in-Some-number_of-2.second in
+    let first_place : i < 256 = omega (arith, first.0, points_count, count) in
+    let second_place : j < 256 = omega (arith, second.0, points_count, count) in
+    let says = c.self.invariant.table.says i j first_place second_place in
+    let read = c.has_pair.ensures ∙ ap (λ (rs : List Bool). slice_index_or rs (pair_place i j) false) c.as_slice-3.ensures.value in
     IsFirstCode-at d (pair_item a b c.args.amount) SamePair known
-    (inr (Any-joined_named d.site a b i j first.1 second.1 (Any-joined_same c.as_slice-3.result.now d.site.pairs i j pairs_are (c.has_pair.ensures.0 c.if-has_pair.true))))
+    (inr (Any-joined_named d.site a b i j first.1 second.1 (Any-joined_same c.self.inside.pairs.items d.site.pairs i j pairs_are (says.0 (sym read ∙ c.if-has_pair.true)))))
 
 pub returns-clause-good : goal.returns-clause-good
 returns-clause-good c =
@@ -85,14 +93,20 @@ returns-clause-good c =
     let others_are = c.as_slice-2.ensures.value ∙ ap (λ (e : Draft). e.site.points) c.self.view_is in
     let second = numbered_same c.as_slice-2.result.now d.site.points b c.in-Some-number_of-2.second others_are c.in-Some-number_of-2.ensures in
     let known = KeepsBelow-pair_known d a b c.args.amount named (Any-named d.site.points a c.in-Some-number_of.first first.0 first.1) (Any-named d.site.points b c.in-Some-number_of-2.second second.0 second.1) in
-    let pairs_are = c.as_slice-3.ensures.value ∙ ap (λ (e : Draft). e.site.pairs) c.self.view_is in
+    let pairs_are = ap (λ (e : Draft). e.site.pairs) c.self.view_is in
+    let points_count = ap (λ (e : Draft). length e.site.points) c.self.view_is in
+    let count = c.self.invariant.draft.points.count in
     let i = c.in-Some-number_of.first in
     let j = c.in-Some-number_of-2.second in
+    let first_place : i < 256 = omega (arith, first.0, points_count, count) in
+    let second_place : j < 256 = omega (arith, second.0, points_count, count) in
+    let says = c.self.invariant.table.says i j first_place second_place in
+    let read = c.has_pair.ensures ∙ ap (λ (rs : List Bool). slice_index_or rs (pair_place i j) false) c.as_slice-3.ensures.value in
     let draft = subst IsDraft c.self.view_is c.self.invariant.draft in
     IsGood-pair d a b c.args.amount known
     (λ same. ⊎_elim
     (λ (e : a ≡ b). c.if-first-second.false (one_number d.site.points i j draft.points.names_differ first.0 second.0 (first.1 ∙ e ∙ sym second.1)))
     (λ (w : Any (IsOnNames d.site a b) d.site.pairs).
     let joined = Any-named_joined d.site a b i j draft.points.names_differ draft.pairs.each first.0 second.0 first.1 second.1 w in
-    false≢true (sym c.if-has_pair.false ∙ c.has_pair.ensures.1 (Any-joined_same d.site.pairs c.as_slice-3.result.now i j (sym pairs_are) joined)))
+    false≢true (sym c.if-has_pair.false ∙ read ∙ says.1 (Any-joined_same d.site.pairs c.self.inside.pairs.items i j (sym pairs_are) joined)))
     same)
