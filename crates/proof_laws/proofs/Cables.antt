@@ -1,4 +1,4 @@
--- The arcs that the cables of a layout lie on, and sums over arcs that are sums over cables.
+-- The arcs that the cables of a layout lie on, and the left sides of rows as sums over cables.
 use Rattle.std.proofs.Common.{◌≡◌, ℕ, ◌+◌, ◌<◌, inl, inr, Bool, true, false, cond, ℤ, pos, ◌+ℤ◌, ◌*ℤ◌, List, [], ◌∷◌, map, slice_get, Some, refl, ap, sym, ◌∙◌, arith, eq-eqb, eqb-true}
 use Rattle.std.specs.Prelude.{◌==◌, ◌&&◌}
 use Rattle.std.specs.List.{enumerate_from, zip}
@@ -11,9 +11,10 @@ use Rattle.cable_definitions.specs.Walk.{load}
 use Rattle.cable_definitions.specs.Layout.{IsCable, KeepsCandidate}
 use Rattle.cable_definitions.specs.Row.{Row, on_use, on_load, count_of, left, has_arc, flow_of}
 use Rattle.number_laws.proofs.Ring.{var, nat, plus, times, same_value}
-use Rattle.number_laws.proofs.Sums.{sum_int, sum_int-cons, sum_int-same, sum_int-same_on, sum_int-exchange}
+use Rattle.number_laws.proofs.Sums.{sum_int, sum_int-cons, sum_int-same}
 use Rattle.layout_laws.specs.Alike.{StartsDiffer}
-use Rattle.proof_laws.proofs.Lists.{any_at, pairs_at, true_or_false, false_from, both, both_pass, list_any-place, list_any-at, sum_int-never, sum_int-once, sum_int-enumerate}
+use Rattle.layout_laws.proofs.Used.{sum_int-used_arcs}
+use Rattle.proof_laws.proofs.Lists.{any_at, pairs_at, both, both_pass, list_any-place, list_any-at, sum_int-enumerate}
 
 -- whether a cable lies on an arc
 abbrev pub is_on : Cable → Arc → Bool
@@ -70,32 +71,6 @@ place-by_start cables differ i j c d e f same = by_lt i j (λ l. absurd (differ 
     by_lt : (m n : ℕ) → (m < n → m ≡ n) → (n < m → m ≡ n) → m ≡ n
     by_lt m n f g = grind arith
 
--- a sum over the arcs that a layout has is the sum over its cables
-pub sum_over_arcs : (s : Site) (arcs : List Arc) (cables : List Cable) → AreArcs s arcs → StartsDiffer cables → ((i : ℕ) → KeepsCandidate s cables i) → (g : ℕ → ℕ → ℤ)
-    → sum_int (λ (a : Arc). cond (has_arc cables a) (g a.from a.to) (pos 0)) arcs ≡ sum_int (λ (c : Cable). g c.from c.to) cables
-sum_over_arcs s arcs cables are differ candidate g =
-    sum_int-same (λ a. cond (has_arc cables a) (g a.from a.to) (pos 0)) (λ a. sum_int (λ c. cond (is_on c a) (g c.from c.to) (pos 0)) cables) arcs each_arc
-    ∙ sum_int-exchange (λ a c. cond (is_on c a) (g c.from c.to) (pos 0)) arcs cables
-    ∙ sum_int-same_on (λ c. sum_int (λ a. cond (is_on c a) (g c.from c.to) (pos 0)) arcs) (λ c. g c.from c.to) cables each_cable
-  where
-    each_arc : (a : Arc) → cond (has_arc cables a) (g a.from a.to) (pos 0) ≡ sum_int (λ c. cond (is_on c a) (g c.from c.to) (pos 0)) cables
-    each_arc a = elim (true_or_false (has_arc cables a)) [
-      | inl t ↦
-          let on = cable_on cables a t in
-          let one = sum_int-once (λ c. is_on c a) (λ c. g c.from c.to) cables on.place on.cable on.is_cable (is_on-from_ends on.cable a on.from on.to)
-          (λ j d h p. place-by_start cables differ j on.place d on.cable h on.is_cable ((is_on-ends d a p).0 ∙ sym on.from)) in
-          rw t (ap (λ (p : ℕ). g p a.to) (sym on.from) ∙ ap (λ (q : ℕ). g on.cable.from q) (sym on.to) ∙ sym one)
-      | inr t ↦
-          rw t (sym (sum_int-never (λ c. is_on c a) (λ c. g c.from c.to) cables
-          (λ j d h. false_from (is_on d a) (λ p. let r = is_on-ends d a p in let q : true ≡ false = sym (has_arc-from cables a j d h r.0 r.1) ∙ t in cc))))
-    ]
-
-    each_cable : (i : ℕ) (c : Cable) → slice_get cables i ≡ Some c → sum_int (λ a. cond (is_on c a) (g c.from c.to) (pos 0)) arcs ≡ g c.from c.to
-    each_cable i c e =
-        let r = arc_of s arcs cables are candidate i c e in
-        sum_int-once (λ a. is_on c a) (λ a. g c.from c.to) arcs r.0 r.1 r.2 (is_on-from_ends c r.1 (sym r.3) (sym r.4))
-        (λ j b h p. let q = is_on-ends c b p in arc_place s arcs are j r.0 b r.1 h r.2 (sym q.0 ∙ sym r.3) (sym q.1 ∙ sym r.4))
-
 -- the left side of a row, where each arc's use and load is given by a function
 pub left-by : (row : Row) (flow : Arc → ℕ × ℕ) (arcs : List Arc)
     → left row arcs (map flow arcs) ≡ sum_int (λ (x : ℕ × Arc). count_of row (x.0, (x.1, flow x.1))) (enumerate_from 0 arcs)
@@ -129,4 +104,4 @@ left-over_cables s arcs cables are differ candidate row on_cable e =
     ap (λ (u : ℤ). u *ℤ pos (cond (has_arc cables x.1) 1 0) +ℤ on_load row.kind row.members x.1.from x.1.to *ℤ pos (cond (has_arc cables x.1) (load s cables x.1.from) 0)) (e x.0 x.1.from x.1.to)
     ∙ counted-if (has_arc cables x.1) (on_cable x.1.from x.1.to) (on_load row.kind row.members x.1.from x.1.to) (load s cables x.1.from))
     ∙ sum_int-enumerate f arcs 0
-    ∙ sum_over_arcs s arcs cables are differ candidate g
+    ∙ sum_int-used_arcs s arcs cables are candidate differ g

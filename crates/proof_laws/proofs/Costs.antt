@@ -1,41 +1,26 @@
--- Costs grow with the load, and a legal layout costs at most the ceiling.
-use Rattle.std.proofs.Common.{◌≡◌, ℕ, zero, suc, ◌+◌, ◌*◌, ◌<◌, ◌≤◌, inl, inr, false, cond, List, [], ◌∷◌, map, length, slice_get, Some, None, Option, option_map, sum_by, refl, ap, sym, ◌∙◌, arith, eq-eqb}
+-- A legal layout costs at most the ceiling.
+use Rattle.std.proofs.Common.{◌≡◌, ℕ, zero, suc, ◌+◌, ◌<◌, ◌≤◌, inl, inr, false, cond, List, [], ◌∷◌, map, length, slice_get, Some, option_map, refl, ap, sym, ◌∙◌, arith, eq-eqb}
 use Rattle.std.specs.Prelude.{◌==◌}
 use Rattle.std.specs.List.{enumerate_from, range_with_len}
-use Rattle.std.proofs.lemmas.Nat.{mul-le}
-use Rattle.std.proofs.lemmas.List.Sums.{sum_by-cons}
 use Rattle.std.proofs.lemmas.Option.{slice_get-map}
 use Rattle.cable_definitions.specs.declared.cable.Cable.{Cable}
 use Rattle.cable_definitions.specs.declared.cable.Arc.{Arc}
 use Rattle.cable_definitions.specs.declared.site.CableType.{CableType}
 use Rattle.cable_definitions.specs.declared.site.Point.{Point}
 use Rattle.cable_definitions.specs.Site.{Site}
-use Rattle.cable_definitions.specs.Arcs.{AreArcs, kind_of, kind_from, is_substation, cost_by, cost_from, cost_of, capacity_from, capacity_of, length_between, charge_of}
+use Rattle.cable_definitions.specs.Arcs.{AreArcs, kind_of, kind_from, is_substation, cost_of, capacity_from, capacity_of}
 use Rattle.cable_definitions.specs.Walk.{cable_out, load}
 use Rattle.cable_definitions.specs.Layout.{IsCable, IsLegal, cost}
 use Rattle.cable_definitions.specs.Tree.{greatest_of_types, greatest_out, ceiling}
-use Rattle.number_laws.proofs.NatSums.{sum_by-le_on}
+use Rattle.number_laws.proofs.NatSums.{sum_by-le_on, sum_by-same_on}
 use Rattle.number_laws.proofs.Keys.{value_at, sum_by-keys}
+use Rattle.number_laws.proofs.Places.{slice_get-enumerate_from, sum_by-numbers}
+use Rattle.layout_laws.proofs.Monotone.{cost_of-le}
 use Rattle.layout_laws.proofs.Alike.{cable_out-from}
 use Rattle.layout_laws.proofs.Walking.{Starts-from_out, out_cases}
 use Rattle.layout_laws.proofs.Ending.{Starts-substation}
 use Rattle.proof_laws.proofs.Lists.{some_at, fold_max-at, false_from}
 use Rattle.proof_laws.proofs.Cables.{arc_of}
-
--- a cable of a type costs no less at a greater load
-pub cost_by-monotone : (n : ℕ) (t : CableType) (low high charge : ℕ) → low ≤ high → cost_by n t low charge ≤ cost_by n t high charge
-cost_by-monotone n t low high charge h =
-    let once = mul-le (t.loss * low) low (t.loss * high) high (mul-le t.loss low t.loss high (omega arith) h) h in
-    let all = mul-le n (t.price + t.loss * low * low) n (t.price + t.loss * high * high) (omega arith) (let o : t.loss * low * low ≤ t.loss * high * high = once in omega (arith, o)) in
-    omega (arith, all)
-
--- nor does a cable between two points of the site
-pub cost_of-monotone : (s : Site) (p q grade low high : ℕ) → low ≤ high → cost_of s p q grade low ≤ cost_of s p q grade high
-cost_of-monotone s p q grade low high h = by_type (slice_get s.types grade)
-  where
-    by_type : (o : Option CableType) → cost_from s p q o low ≤ cost_from s p q o high
-    by_type None = omega arith
-    by_type (Some t) = cost_by-monotone (length_between (slice_get s.points p) (slice_get s.points q)) t low high (charge_of s p q) h
 
 -- an element among the numbered elements
 pub enumerate_from-at : {X : Type 0} → (xs : List X) (n i : ℕ) (x : X) → slice_get xs i ≡ Some x → slice_get (enumerate_from n xs) i ≡ Some (n + i, x)
@@ -58,7 +43,7 @@ cost_of-greatest s a grade l within enough =
     fold_max-at (λ (x : ℕ × ℕ). cost_of s a.from a.to x.0 x.1) 0 (enumerate_from 0 (map (λ (t : CableType). t.capacity) s.types)) grade (0 + grade, t.0.capacity) place in
     let number : cost_of s a.from a.to (0 + grade) t.0.capacity ≡ cost_of s a.from a.to grade t.0.capacity =
     ap (λ (k : ℕ). cost_of s a.from a.to k t.0.capacity) (let q : 0 + grade ≡ grade = omega arith in q) in
-    let grown = cost_of-monotone s a.from a.to grade l t.0.capacity (omega (arith, enough, capacity)) in
+    let grown = cost_of-le s a.from a.to grade l t.0.capacity (omega (arith, enough, capacity)) in
     omega (arith, most, number, grown)
 
 -- a cable of a legal layout costs at most the greatest cost out of its start
@@ -76,16 +61,6 @@ cable-cost-greatest s arcs cables are g i c e =
     let here : cond (a.from == c.from) (greatest_of_types s a) 0 ≡ greatest_of_types s a = rw (eq-eqb a.from c.from from) refl in
     omega (arith, own, moved, most, here)
 
--- a sum over numbered elements is a sum over their numbers
-pub sum_by-numbers : {X : Type 0} → (f : ℕ → ℕ) (h : ℕ × X → ℕ) (xs : List X) (n : ℕ) → ((i : ℕ) (x : X) → slice_get xs i ≡ Some x → f (n + i) ≡ h (n + i, x))
-    → sum_by f (range_with_len n (length xs)) ≡ sum_by h (enumerate_from n xs)
-sum_by-numbers f h [] n e = refl
-sum_by-numbers f h (x ∷ xs) n e =
-    let here : f n ≡ h (n, x) = let q : n + 0 ≡ n = omega arith in ap f (sym q) ∙ e 0 x refl ∙ ap (λ (k : ℕ). h (k, x)) q in
-    let rest = sum_by-numbers f h xs (n + 1) (λ i y p.
-    let q : n + 1 + i ≡ n + suc i = omega arith in ap f q ∙ e (suc i) y p ∙ ap (λ (k : ℕ). h (k, y)) (sym q)) in
-    omega (arith, sum_by-cons f n (range_with_len (n + 1) (length xs)), sum_by-cons h (n, x) (enumerate_from (n + 1) xs), here, rest)
-
 -- a legal layout costs at most the ceiling
 pub cost-ceiling : (s : Site) (arcs : List Arc) (cables : List Cable) → AreArcs s arcs → IsLegal s cables → cost s cables ≤ ceiling s arcs
 cost-ceiling s arcs cables are g =
@@ -96,9 +71,11 @@ cost-ceiling s arcs cables are g =
     let each = sum_by-le_on (λ (c : Cable). cost_of s c.from c.to c.grade (load s cables c.from)) (λ c. most c.from) cables (λ i c e. cable-cost-greatest s arcs cables are g i c e) in
     let keys = sum_by-keys (λ (c : Cable). c.from) (λ (c : Cable). most c.from) n cables g.start (λ i c e. (g.range i).from c e) in
     let points = sum_by-le_on (λ (p : ℕ). value_at (λ (c : Cable). most c.from) (cable_out cables p)) at_point (range_with_len 0 n) (λ i p e. at_start p) in
-    let numbers = sum_by-numbers at_point over_point s.points 0 (λ i point e.
-    ap (λ o. cond (is_substation (kind_from o)) 0 (most (0 + i))) (ap (slice_get s.points) (let q : 0 + i ≡ i = omega arith in q) ∙ e)) in
-    omega (arith, each, keys, points, numbers)
+    let kinds = sum_by-same_on over_point (λ (x : ℕ × Point). at_point x.0) (enumerate_from 0 s.points) (λ i x e.
+    let r = slice_get-enumerate_from 0 s.points i x e in
+    let number : x.0 ≡ i = omega (arith, r.0) in
+    ap (λ o. cond (is_substation (kind_from o)) 0 (most x.0)) (sym r.1 ∙ ap (slice_get s.points) (sym number))) in
+    omega (arith, each, keys, points, kinds, sum_by-numbers at_point 0 s.points)
   where
     at_start : (p : ℕ) → value_at (λ (c : Cable). greatest_out s arcs c.from) (cable_out cables p) ≤ cond (is_substation (kind_of s p)) 0 (greatest_out s arcs p)
     at_start p = elim (out_cases cables p) [

@@ -20,7 +20,7 @@ use Rattle.layout_laws.proofs.Alike.{cable_out-from, cable_out-place}
 use Rattle.layout_laws.proofs.Walking.{none-from_Starts, out_cases, no_return}
 use Rattle.layout_laws.proofs.Flow.{load-flow}
 use Rattle.layout_laws.proofs.Ending.{WalksEnd-legal, load_into-substation}
-use Rattle.proof_laws.proofs.Lists.{all_at}
+use Rattle.layout_laws.proofs.Typing.{all-at}
 use Rattle.proof_laws.proofs.Costs.{cost-ceiling}
 use Rattle.proof_laws.proofs.Compatible.{none_incompatible}
 use Rattle.proof_laws.proofs.Points.{starts_in-none, load_into-none, bend_point, substation_kind, turbine_out, load-most}
@@ -118,7 +118,7 @@ none-ceiling s arcs marks bound are holds above cables g box = let a = holds cab
 pub none-dead : (s : Site) (arcs : List Arc) (rows : List Row) (marks : List Mark) (bound : ℕ) (why : Why) → IsValid s → AreArcs s arcs → All (IsWellFormed s arcs) rows
     → ((cables : List Cable) → IsLegal s cables → IsInBox arcs marks cables → bound ≤ cost s cables)
     → IsDead s arcs rows marks bound why → (cables : List Cable) → IsLegal s cables → ¬ (IsInBox arcs marks cables)
-none-dead s arcs rows marks bound (RowWhy r) v are formed holds d = none-row s arcs marks d.0 v are (all_at (IsWellFormed s arcs) rows formed r d.0 d.1) d.2
+none-dead s arcs rows marks bound (RowWhy r) v are formed holds d = none-row s arcs marks d.0 v are (all-at (IsWellFormed s arcs) rows r d.0 formed d.1) d.2
 none-dead s arcs rows marks bound (Pair a b) v are formed holds d = none-pair s arcs marks a b d.1
 none-dead s arcs rows marks bound (Load p) v are formed holds d = none-load s arcs marks p d.0 d.1 d.2
 none-dead s arcs rows marks bound (Loop p) v are formed holds d = none-loop s arcs marks p d.1.0 d.0 d.1.1 d.1.3

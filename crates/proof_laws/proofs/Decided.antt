@@ -15,9 +15,8 @@ use Rattle.cable_definitions.specs.Choice.{Choice, NoCable, Carries, least_load,
 use Rattle.cable_definitions.specs.Tree.{used_cables, counted, CannotMeet}
 use Rattle.number_laws.proofs.Ring.{var, nat, plus, times, same_value}
 use Rattle.number_laws.proofs.Sums.{sum_int, sum_int-cons}
-use Rattle.layout_laws.proofs.Typing.{some_bears}
+use Rattle.layout_laws.proofs.Typing.{all-at, some_bears}
 use Rattle.proof_laws.specs.Decided.{AreDecided}
-use Rattle.proof_laws.proofs.Lists.{all_at}
 use Rattle.proof_laws.proofs.Points.{largest_capacity-some}
 
 -- a candidate arc can be used
@@ -106,7 +105,7 @@ decided_row s arcs marks row on_cable v are d e f can =
     (at_least total limit enough, λ t. exactly total limit enough (few t))
   where
     choice : (k : ℕ) (a : Arc) → slice_get arcs k ≡ Some a → (grade load : ℕ) × IsChoice s a Used (Carries grade load)
-    choice k a h = arc_choice s v a (all_at (λ (a : Arc). IsCandidate s a.from a.to) arcs are.candidates k a h)
+    choice k a h = arc_choice s v a (all-at (λ (a : Arc). IsCandidate s a.from a.to) arcs k a are.candidates h)
 
     at_least : (y z : ℤ) → ¬ (y <ℤ z) → z ≤ℤ y
     at_least y z n = by_lt_z y z (λ lt. absurd (n lt)) (λ ge. ge)

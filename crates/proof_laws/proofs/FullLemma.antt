@@ -29,8 +29,8 @@ use Rattle.layout_laws.specs.Alike.{StartsDiffer}
 use Rattle.layout_laws.specs.Visits.{WalksEnd}
 use Rattle.layout_laws.proofs.Alike.{cable_out-from, cable_out-place}
 use Rattle.layout_laws.proofs.Walking.{Starts-from_out, out_cases, walk_end-stays, walk_end-step, walk_end-further, walk_end-ended, most_steps_is}
+use Rattle.layout_laws.proofs.Typing.{all-at}
 use Rattle.proof_laws.specs.Decided.{AreDecided, HasPointRows}
-use Rattle.proof_laws.proofs.Lists.{all_at}
 use Rattle.proof_laws.proofs.Cables.{arc_place}
 use Rattle.proof_laws.proofs.Points.{starts_in-none, sum_by-ones}
 use Rattle.proof_laws.proofs.RowsHold.{row_at, sum-starts, sum-ends, sum-negative}
@@ -173,7 +173,7 @@ used-differ s arcs rows marks bound n i j c d e f l same =
 pub used-candidate : (s : Site) (arcs : List Arc) (marks : List Mark) → AreArcs s arcs → (i : ℕ) (c : Cable) → IsCable (used_cables arcs marks) i c → IsCandidate s c.from c.to
 used-candidate s arcs marks are i c e =
     let u = used_arc arcs marks i c e in
-    let own = all_at (λ (a : Arc). IsCandidate s a.from a.to) arcs are.candidates u.place u.arc u.is_arc in
+    let own = all-at (λ (a : Arc). IsCandidate s a.from a.to) arcs u.place u.arc are.candidates u.is_arc in
     subst (λ (p : ℕ). IsCandidate s p c.to) u.starts (subst (λ (q : ℕ). IsCandidate s u.arc.from q) u.ends own)
 
 -- more numbers than there are below n aren't all different

@@ -24,7 +24,7 @@ use Rattle.layout_laws.proofs.Alike.{cable_out-from, cable_out-place, cable_out-
 use Rattle.layout_laws.proofs.Arcs.{SameEnds-from_arcs}
 use Rattle.layout_laws.proofs.Walking.{none-from_Starts, Starts-from_out, out_cases, walk_end-stays, walk_end-step, walk_end-ended, end-from_comes_to, most_steps_is}
 use Rattle.layout_laws.proofs.Ending.{candidate-out, Starts-substation, bend-fed}
-use Rattle.proof_laws.proofs.Lists.{all_at}
+use Rattle.layout_laws.proofs.Typing.{all-at}
 use Rattle.proof_laws.proofs.Points.{turbine_out}
 use Rattle.proof_laws.proofs.Cables.{cable_on, has_arc-from, arc_place}
 use Rattle.proof_laws.proofs.Within.{IsWithin, used_within, used_arc, used_on}
@@ -142,7 +142,7 @@ full-ends s arcs marks full cables f g box = no_more s full cables f.legal g (fu
 pub full-cost : (s : Site) (arcs : List Arc) (marks : List Mark) (full cables : List Cable) → IsFull s arcs marks full → IsLegal s cables → IsInBox arcs marks cables → cost s full ≤ cost s cables
 full-cost s arcs marks full cables f g box =
     cheapest-cost s full cables f.legal g (full-ends s arcs marks full cables f g box)
-    (λ i c e. all_at (λ (c : Cable). IsCheapest s c.from c.to (load s full c.from) c.grade) full f.cheapest i c e)
+    (λ i c e. all-at (λ (c : Cable). IsCheapest s c.from c.to (load s full c.from) c.grade) full i c f.cheapest e)
 
 -- an arc of such a layout is marked used
 pub full-used : (s : Site) (arcs : List Arc) (marks : List Mark) (full cables : List Cable) → AreArcs s arcs → IsFull s arcs marks full → IsLegal s cables → IsInBox arcs marks cables

@@ -20,9 +20,8 @@ use Rattle.cable_definitions.specs.Tree.{used_cables, IsFull}
 use Rattle.number_laws.proofs.Keys.{value_at}
 use Rattle.layout_laws.specs.Typable.{IsTypable}
 use Rattle.layout_laws.proofs.Ending.{load_into-substation}
-use Rattle.layout_laws.proofs.Typing.{some_cheap_typed, some_bears}
+use Rattle.layout_laws.proofs.Typing.{all-at, some_cheap_typed, some_bears}
 use Rattle.layout_laws.proofs.Typed.{IsLegal-typable}
-use Rattle.proof_laws.proofs.Lists.{all_at}
 use Rattle.proof_laws.proofs.Points.{starts_in-out, turbine_kind, load-most}
 use Rattle.proof_laws.proofs.Within.{used_arc}
 use Rattle.proof_laws.proofs.FullLemma.{NoReason, used-out, used-inlet, used-bend, used-differ, used-candidate, used-end, used-lost, no_used_pair, starts_from_count, within-turbine, within-substation}
@@ -133,7 +132,7 @@ full-from s arcs rows marks bound n =
         starts = cheap.1.arcs.starts;
         ends = cheap.1.arcs.ends;
         cheapest = all_from (λ c. IsCheapest s c.from c.to (load s cheap.0 c.from) c.grade) cheap.0 (λ i c e.
-            elim (all_at (λ c. IsCheapest s c.from c.to (load s cheap.0 c.from) c.grade ⊎ (((grade : ℕ) → ¬ (Bears s grade (load s cheap.0 c.from))) × (c.grade ≡ 0))) cheap.0 cheap.1.types i c e) [
+            elim (all-at (λ c. IsCheapest s c.from c.to (load s cheap.0 c.from) c.grade ⊎ (((grade : ℕ) → ¬ (Bears s grade (load s cheap.0 c.from))) × (c.grade ≡ 0))) cheap.0 i c cheap.1.types e) [
               | inl best ↦ best
               | inr none ↦ absurd (let b = some_bears s (load s cheap.0 c.from) n.valid.some_types (load-most s cheap.0 legal i c e) in none.0 b.0 b.1)
             ]);

@@ -1,6 +1,6 @@
--- elements of lists at a place, and sums in which one element counts
+-- elements of lists at a place, tests that pass, and greatest values
 pub mod Lists
--- the arcs that the cables of a layout lie on, and sums over arcs that are sums over cables
+-- the arcs that the cables of a layout lie on, and the left sides of rows as sums over cables
 pub mod Cables
 -- no two cables of a legal layout lie on incompatible arcs
 pub mod Compatible
@@ -12,7 +12,7 @@ pub mod RowsHold
 pub mod Choices
 -- the used arcs of a box, and their walks, which are beginnings of the walks of each layout in the box
 pub mod Within
--- costs grow with the load, and a legal layout costs at most the ceiling
+-- a legal layout costs at most the ceiling
 pub mod Costs
 -- where a reason is true of a node, no legal layout lies in its box
 pub mod DeadNodes

@@ -1,18 +1,12 @@
--- Elements of lists at a place, and sums in which one element counts.
-use Rattle.std.proofs.Common.{◌≡◌, ◌≢◌, ℕ, zero, suc, ◌+◌, ◌<◌, ◌≤◌, ◌⊎◌, inl, inr, Bool, true, false, cond, ℤ, pos, List, [], ◌∷◌, length, slice_get, get_or, Some, None, Option, sum_by, count_by, refl, ap, sym, ◌∙◌, subst, arith, eq-eqb, ne_eqb}
-use Rattle.std.specs.Prelude.{◌==◌, ◌&&◌, ◌||◌, All, AllPairs, Any, fold, max}
+-- Elements of lists at a place, tests that pass, and greatest values.
+use Rattle.std.proofs.Common.{◌≡◌, ℕ, zero, suc, ◌+◌, ◌<◌, ◌≤◌, ◌⊎◌, inl, inr, Bool, true, false, cond, ℤ, List, [], ◌∷◌, length, slice_get, get_or, Some, count_by, refl, ap, sym, ◌∙◌, subst, arith, eq-eqb, ne_eqb}
+use Rattle.std.specs.Prelude.{◌==◌, ◌&&◌, ◌||◌, AllPairs, Any, fold, max}
 use Rattle.std.specs.List.{list_any, enumerate_from}
 use Rattle.std.proofs.lemmas.Option.{slice_get_within, get_or_from_slice_get, slice_get-get_or}
-use Rattle.std.proofs.lemmas.List.Sums.{sum_by-cons, get_or-le-sum_by}
+use Rattle.std.proofs.lemmas.List.Sums.{sum_by-cons}
 use Rattle.std.proofs.lemmas.Bool.Decides.{eqb_tells}
 use Rattle.std.proofs.lemmas.Int.{ints}
 use Rattle.number_laws.proofs.Sums.{sum_int, sum_int-cons}
-use Rattle.number_laws.proofs.NatSums.{sum_by-same}
-use Rattle.number_laws.proofs.Keys.{first_at, value_at, sum_by-one_key}
-
--- a fact of all elements, at a place
-pub all_at : {X : Type 0} → (P : X → Type 0) (xs : List X) → All P xs → (i : ℕ) (x : X) → slice_get xs i ≡ Some x → P x
-all_at P xs a i x e = subst P (get_or_from_slice_get xs i x x e) (a i x (slice_get_within xs i x e))
 
 -- a fact of some element, with its place
 pub any_at : {X : Type 0} → (P : X → Type 0) (xs : List X) → Any P xs → (i : ℕ) × (x : X) × (slice_get xs i ≡ Some x) × P x
@@ -69,31 +63,6 @@ list_any-at test (y ∷ ys) (suc i) x e t = by_cases (test y) (list_any-at test 
     by_cases true h = refl
     by_cases false h = h
 
--- a sum in which no element counts
-pub sum_int-never : {X : Type 0} → (test : X → Bool) (f : X → ℤ) (xs : List X) → ((j : ℕ) (y : X) → slice_get xs j ≡ Some y → test y ≡ false)
-    → sum_int (λ y. cond (test y) (f y) (pos 0)) xs ≡ pos 0
-sum_int-never test f [] h = refl
-sum_int-never test f (x ∷ xs) h =
-    let c : cond (test x) (f x) (pos 0) ≡ pos 0 = rw (h 0 x refl) refl in
-    omega (arith, ints, sum_int-cons (λ y. cond (test y) (f y) (pos 0)) x xs, c, sum_int-never test f xs (λ j. h (suc j)))
-
--- a sum in which one element counts
-pub sum_int-once : {X : Type 0} → (test : X → Bool) (f : X → ℤ) (xs : List X) (i : ℕ) (x : X) → slice_get xs i ≡ Some x → test x ≡ true
-    → ((j : ℕ) (y : X) → slice_get xs j ≡ Some y → test y ≡ true → j ≡ i) → sum_int (λ y. cond (test y) (f y) (pos 0)) xs ≡ f x
-sum_int-once test f [] i x e t u = absurd (cc)
-sum_int-once test f (y ∷ ys) zero x e t u =
-    let same : y ≡ x = cc in
-    let passes : test y ≡ true = ap test same ∙ t in
-    let c : cond (test y) (f y) (pos 0) ≡ f y = rw passes refl in
-    let g : f y ≡ f x = ap f same in
-    let n = sum_int-never test f ys (λ j z h. false_from (test z) (λ p. let q : suc j ≡ 0 = u (suc j) z h p in omega arith)) in
-    omega (arith, ints, sum_int-cons (λ y. cond (test y) (f y) (pos 0)) y ys, c, g, n)
-sum_int-once test f (y ∷ ys) (suc i) x e t u =
-    let fails : test y ≡ false = false_from (test y) (λ p. let q : 0 ≡ suc i = u 0 y refl p in omega arith) in
-    let c : cond (test y) (f y) (pos 0) ≡ pos 0 = rw fails refl in
-    let r = sum_int-once test f ys i x e t (λ j z h p. let q : suc j ≡ suc i = u (suc j) z h p in omega arith) in
-    omega (arith, ints, sum_int-cons (λ y. cond (test y) (f y) (pos 0)) y ys, c, r)
-
 -- a count in which no two elements pass is one at most
 pub count_by-one : {X : Type 0} → (test : X → Bool) (xs : List X)
     → ((i j : ℕ) (x y : X) → slice_get xs i ≡ Some x → slice_get xs j ≡ Some y → test x ≡ true → test y ≡ true → i ≡ j) → count_by test xs ≤ 1
@@ -121,30 +90,11 @@ sum_int-enumerate f [] n = refl
 sum_int-enumerate {X} f (x ∷ xs) n =
     omega (arith, ints, sum_int-cons (λ (y : ℕ × X). f y.1) (n, x) (enumerate_from (n + 1) xs), sum_int-cons f x xs, sum_int-enumerate f xs (n + 1))
 
--- a numbered element stands at its number
-pub enumerate_from-place : {X : Type 0} → (xs : List X) (n i : ℕ) (x : ℕ × X) → slice_get (enumerate_from n xs) i ≡ Some x → (x.0 ≡ n + i) × (slice_get xs i ≡ Some x.1)
-enumerate_from-place [] n i x e = absurd (cc)
-enumerate_from-place {X} (y ∷ ys) n zero x e =
-    let same : (n, y) ≡ x = cc in
-    let a : n ≡ x.0 = ap (λ (p : ℕ × X). p.0) same in
-    (omega arith, ap Some (ap (λ (p : ℕ × X). p.1) same))
-enumerate_from-place (y ∷ ys) n (suc i) x e =
-    let r = enumerate_from-place ys (n + 1) i x e in
-    let a : x.0 ≡ (n + 1) + i = r.0 in
-    (omega arith, r.1)
-
 -- there is an element at each place within the list
 pub some_at : {X : Type 0} → (xs : List X) (i : ℕ) → i < length xs → (x : X) × (slice_get xs i ≡ Some x)
 some_at [] i h = absurd (omega arith)
 some_at (x ∷ xs) zero h = (x, refl)
 some_at (x ∷ xs) (suc i) h = some_at xs i (omega arith)
-
--- a term is at most the sum
-pub term-le-sum : {X : Type 0} → (f : X → ℕ) (xs : List X) (i : ℕ) (x : X) → slice_get xs i ≡ Some x → f x ≤ sum_by f xs
-term-le-sum f xs i x e =
-    let l = get_or-le-sum_by f xs i x (slice_get_within xs i x e) in
-    let g = ap f (get_or_from_slice_get xs i x x e) in
-    omega (arith, l, g)
 
 -- a greatest value so far only grows
 pub fold_max-start : {X : Type 0} → (f : X → ℕ) (most : ℕ) (xs : List X) → most ≤ fold (λ m x. max m (f x)) most xs
@@ -162,26 +112,3 @@ pub one_element : {X : Type 0} → (xs : List X) → length xs ≡ 1 → (x : X)
 one_element [] e = absurd (omega arith)
 one_element (x ∷ []) e = (x, refl)
 one_element (x ∷ y ∷ ys) e = absurd (omega arith)
-
--- where each element is below the next, it is below each later one
-pub ascending_at : (xs : List ℕ) → ((i m n : ℕ) → slice_get xs i ≡ Some m → slice_get xs (i + 1) ≡ Some n → m < n)
-    → (d i m n : ℕ) → slice_get xs i ≡ Some m → slice_get xs (i + suc d) ≡ Some n → m < n
-ascending_at xs up zero i m n e f = up i m n e (ap (slice_get xs) (let q : i + 1 ≡ i + suc 0 = omega arith in q) ∙ f)
-ascending_at xs up (suc d) i m n e f =
-    let within = slice_get_within xs (i + suc (suc d)) n f in
-    let mid = some_at xs (i + suc d) (omega arith) in
-    let a : m < mid.0 = ascending_at xs up d i m mid.0 e mid.1 in
-    let b : mid.0 < n = up (i + suc d) mid.0 n mid.1 (ap (slice_get xs) (let q : i + suc d + 1 ≡ i + suc (suc d) = omega arith in q) ∙ f) in
-    omega arith
-
--- a sum over numbers that differ counts each number once
-pub sum_by-members : (xs : List ℕ) → ((i j m n : ℕ) → slice_get xs i ≡ Some m → slice_get xs j ≡ Some n → j < i → n ≢ m) → (k z : ℕ)
-    → sum_by (λ m. cond (k == m) z 0) xs ≤ z
-sum_by-members xs d k z =
-    let swapped = sum_by-same (λ m. cond (k == m) z 0) (λ m. cond (m == k) z 0) xs (λ m. ap (λ b. cond b z 0) (eqb_swapped k m)) in
-    let one = sum_by-one_key (λ (m : ℕ). m) (λ m. z) xs k d in
-    omega (arith, swapped, one, at_most (first_at (λ (m : ℕ). m) xs k))
-  where
-    at_most : (o : Option ℕ) → value_at (λ (m : ℕ). z) o ≤ z
-    at_most None = omega arith
-    at_most (Some m) = omega arith

@@ -22,7 +22,8 @@ use Rattle.layout_laws.proofs.Alike.{cable_out-from}
 use Rattle.layout_laws.proofs.Walking.{out_cases}
 use Rattle.layout_laws.proofs.Flow.{load-flow}
 use Rattle.layout_laws.proofs.Ending.{WalksEnd-legal, candidate-out}
-use Rattle.proof_laws.proofs.Lists.{all_at, some_at, true_or_false, fold_max-at}
+use Rattle.layout_laws.proofs.Typing.{all-at}
+use Rattle.proof_laws.proofs.Lists.{some_at, true_or_false, fold_max-at}
 
 -- where starts differ, one cable starts in a point or none
 pub starts_in-out : (cables : List Cable) → StartsDiffer cables → (p : ℕ) → starts_in cables p ≡ value_at (λ (c : Cable). 1) (cable_out cables p)
@@ -169,7 +170,7 @@ load-most s cables g i c e = let a = g.capacity c.from i c e refl in let b = cap
 pub largest_capacity-some : (s : Site) → IsValid s → 1 ≤ largest_capacity s
 largest_capacity-some s v =
     let r = some_at s.types 0 (let h = v.some_types in omega (arith, h)) in
-    let t = all_at (IsCableType s.version) s.types v.types 0 r.0 r.1 in
+    let t = all-at (IsCableType s.version) s.types 0 r.0 v.types r.1 in
     let h = t.some_capacity in
     let m = fold_max-at (λ (t : CableType). t.capacity) 0 s.types 0 r.0 r.1 in
     omega (arith, h, m)

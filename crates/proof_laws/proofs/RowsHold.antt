@@ -1,30 +1,28 @@
 -- Each well-formed row holds of each legal layout.
-use Rattle.std.proofs.Common.{◌≡◌, ◌≢◌, ℕ, suc, ◌+◌, ◌-◌, ◌*◌, ◌<◌, ◌≤◌, ◌⊎◌, inl, inr, Bool, true, false, not, cond, ℤ, pos, neg_ℤ, ◌+ℤ◌, ◌-ℤ◌, ◌*ℤ◌, ◌≤ℤ◌, List, [], ◌∷◌, map, length, slice_get, Some, sum_by, count_by, refl, ap, sym, ◌∙◌, subst, arith, eq-eqb, eqb-true}
+use Rattle.std.proofs.Common.{◌≡◌, ◌≢◌, ℕ, ◌+◌, ◌*◌, ◌<◌, ◌≤◌, ◌⊎◌, inl, inr, Bool, true, false, not, cond, ℤ, pos, neg_ℤ, ◌+ℤ◌, ◌-ℤ◌, ◌*ℤ◌, ◌≤ℤ◌, List, [], ◌∷◌, map, length, slice_get, Some, sum_by, count_by, refl, ap, sym, ◌∙◌, subst, arith, eqb-true}
 use Rattle.std.specs.Prelude.{◌==◌, ◌&&◌, ◌||◌, IsTrue}
 use Rattle.std.specs.List.{enumerate_from}
 use Rattle.std.proofs.lemmas.Int.{ints}
 use Rattle.std.proofs.lemmas.Bool.Decides.{eqb_tells}
-use Rattle.std.proofs.lemmas.List.Sums.{sum_by-le-sum_by}
 use Rattle.cable_definitions.specs.declared.cable.Cable.{Cable}
 use Rattle.cable_definitions.specs.declared.cable.Arc.{Arc}
 use Rattle.cable_definitions.specs.declared.row.RowKind.{RowKind}
 use Rattle.cable_definitions.specs.declared.row.RowKind.TheVariants.{Out, Flow, Inlet, Bend, Power, One, Cut}
 use Rattle.cable_definitions.specs.declared.site.Kind.{Kind}
 use Rattle.cable_definitions.specs.declared.site.Kind.TheVariants.{Turbine, Substation, Bend as BendKind}
-use Rattle.cable_definitions.specs.declared.site.Point.{Point}
 use Rattle.cable_definitions.specs.Site.{Site, IsValid}
-use Rattle.cable_definitions.specs.Arcs.{AreArcs, kind_of, is_turbine, is_substation, is_bend, power_of, power_of_kind, largest_capacity}
-use Rattle.cable_definitions.specs.Walk.{walk_end, most_steps, passes, load, load_into, starts_in, ends_in}
+use Rattle.cable_definitions.specs.Arcs.{AreArcs, kind_of, is_turbine, is_substation, is_bend, power_of, largest_capacity}
+use Rattle.cable_definitions.specs.Walk.{load, load_into, starts_in, ends_in}
 use Rattle.cable_definitions.specs.Layout.{IsLegal}
 use Rattle.cable_definitions.specs.Row.{Row, is_member, one_if, on_use, on_load, inlet_limit, power_limit, rounded_up, is_equation, count_of, left, Relates, has_arc, flow_of, Holds, RightCount, InRange, Ascending, RightKind, NoSubstation, Incompatible, IsWellFormed}
 use Rattle.number_laws.proofs.Ring.{var, nat, plus, minus, times, same_value}
 use Rattle.number_laws.proofs.Sums.{sum_int, sum_int-same, sum_int-minus, sum_int-zero, sum_int-pos}
-use Rattle.number_laws.proofs.NatSums.{sum_by-same, sum_by-le_on, sum_by-times, sum_by-cond, sum_by-exchange}
+use Rattle.number_laws.proofs.NatSums.{sum_by-le_on, sum_by-times}
 use Rattle.number_laws.proofs.Ceiling.{ceiling-least}
-use Rattle.layout_laws.proofs.Flow.{power_of-sum}
-use Rattle.layout_laws.proofs.Walking.{Starts-from_out}
-use Rattle.layout_laws.proofs.Ending.{leaves-by}
-use Rattle.proof_laws.proofs.Lists.{true_or_false, both, both_pass, eqb_swapped, list_any-place, list_any-at, count_by-one, enumerate_from-place, one_element, term-le-sum, ascending_at, sum_by-members}
+use Rattle.number_laws.proofs.Keys.{DifferentKeys-ascending}
+use Rattle.number_laws.proofs.Places.{slice_get-enumerate_from}
+use Rattle.layout_laws.proofs.Sets.{leaves, power-le-loads_out}
+use Rattle.proof_laws.proofs.Lists.{true_or_false, both, eqb_swapped, list_any-place, count_by-one, one_element}
 use Rattle.proof_laws.proofs.Cables.{cable_on, left-by, left-over_cables}
 use Rattle.proof_laws.proofs.Compatible.{none_incompatible}
 use Rattle.proof_laws.proofs.Points.{starts_in-some, sent_on, bend_point, substation_kind, bend_kind, turbine_out, ends_in-limit, load-most, largest_capacity-some}
@@ -214,8 +212,8 @@ one-holds s arcs cables g members formed =
     alike : (i j : ℕ) (x y : ℕ × Arc) → slice_get (enumerate_from 0 arcs) i ≡ Some x → slice_get (enumerate_from 0 arcs) j ≡ Some y
         → (is_member members x.0 && has_arc cables x.1) ≡ true → (is_member members y.0 && has_arc cables y.1) ≡ true → i ≡ j
     alike i j x y e f t u =
-        let a = enumerate_from-place arcs 0 i x e in
-        let b = enumerate_from-place arcs 0 j y f in
+        let a = slice_get-enumerate_from 0 arcs i x e in
+        let b = slice_get-enumerate_from 0 arcs j y f in
         let i_is : x.0 ≡ i = a.0 ∙ (let q : 0 + i ≡ i = omega arith in q) in
         let j_is : y.0 ≡ j = b.0 ∙ (let q : 0 + j ≡ j = omega arith in q) in
         let p = both (is_member members x.0) (has_arc cables x.1) t in
@@ -229,56 +227,6 @@ one-holds s arcs cables g members formed =
         (λ lt. absurd (none_incompatible s cables g x.1 y.1 (cable_on cables x.1 p.1) (cable_on cables y.1 q.1) (formed Incompatible k.0 l.0 x.0 y.0 x.1 y.1 refl lt k.1 l.1 first second)))
         (λ gt. absurd (none_incompatible s cables g y.1 x.1 (cable_on cables y.1 q.1) (cable_on cables x.1 p.1) (formed Incompatible l.0 k.0 y.0 x.0 y.1 x.1 refl gt l.1 k.1 second first)))
 
--- whether a cable leaves the members
-abbrev leaves : List ℕ → Cable → Bool
-leaves members c = is_member members c.from && not (is_member members c.to)
-
-not_true : (b : Bool) → ¬ (IsTrue b) → not b ≡ true
-not_true true n = absurd (n refl)
-not_true false n = refl
-
--- the power of a turbine among the members goes over a cable that leaves them
-member_power : (s : Site) (cables : List Cable) → IsLegal s cables → (members : List ℕ) → ((p : ℕ) → is_member members p ≡ true → ¬ IsTrue (is_substation (kind_of s p)))
-    → (m : ℕ) → is_member members m ≡ true → power_of s m ≤ sum_by (λ (c : Cable). cond (leaves members c) (cond (passes cables c.from m) (power_of s m) 0) 0) cables
-member_power s cables g members none m h = by_kind (kind_of s m) refl
-  where
-    by_kind : (k : Kind) → kind_of s m ≡ k → power_of_kind k ≤ sum_by (λ (c : Cable). cond (leaves members c) (cond (passes cables c.from m) (power_of_kind k) 0) 0) cables
-    by_kind (Turbine power) k =
-        let out = turbine_out s cables g m (rw k refl) in
-        let ends : IsTrue (is_substation (kind_of s (walk_end most_steps cables m))) = g.ends m (Starts-from_out cables m out.0 out.1) in
-        let by = leaves-by cables (is_member members) m h (λ t. none (walk_end most_steps cables m) t ends) in
-        let term = term-le-sum (λ (c : Cable). cond (leaves members c) (cond (passes cables c.from m) power 0) 0) cables by.1.place by.0 by.1.is_cable in
-        let leaving : leaves members by.0 ≡ true = both_pass (is_member members by.0.from) (not (is_member members by.0.to)) by.1.from (not_true (is_member members by.0.to) by.1.to) in
-        let passed : passes cables by.0.from m ≡ true = by.1.passed in
-        let value : cond (leaves members by.0) (cond (passes cables by.0.from m) power 0) 0 ≡ power = rw (leaving, passed) refl in
-        omega (arith, term, value)
-    by_kind (Substation feeders power) k = omega arith
-    by_kind BendKind k = omega arith
-
--- the powers of members whose walks pass a point are at most its load
-member_loads : (s : Site) (cables : List Cable) (members : List ℕ) → ((i j m n : ℕ) → slice_get members i ≡ Some m → slice_get members j ≡ Some n → j < i → n ≢ m)
-    → (p : ℕ) → sum_by (λ m. cond (passes cables p m) (power_of s m) 0) members ≤ load s cables p
-member_loads s cables members differ p =
-    let points = enumerate_from 0 s.points in
-    let brought : ℕ × Point → ℕ = λ x. cond (passes cables p x.0) (power_of_kind x.1.kind) 0 in
-    let each = sum_by-same (λ m. cond (passes cables p m) (power_of s m) 0) (λ m. sum_by (λ (x : ℕ × Point). cond (x.0 == m) (brought x) 0) points) members own in
-    let swapped = sum_by-exchange (λ (m : ℕ) (x : ℕ × Point). cond (x.0 == m) (brought x) 0) members points in
-    let most = sum_by-le-sum_by (λ (x : ℕ × Point). sum_by (λ m. cond (x.0 == m) (brought x) 0) members) brought points (λ x. sum_by-members members differ x.0 (brought x)) in
-    omega (arith, each, swapped, most)
-  where
-    own : (m : ℕ) → cond (passes cables p m) (power_of s m) 0 ≡ sum_by (λ (x : ℕ × Point). cond (x.0 == m) (cond (passes cables p x.0) (power_of_kind x.1.kind) 0) 0) (enumerate_from 0 s.points)
-    own m =
-        ap (λ (n : ℕ). cond (passes cables p m) n 0) (sym (power_of-sum s m))
-        ∙ sym (sum_by-cond (passes cables p m) (λ (x : ℕ × Point). cond (x.0 == m) (power_of_kind x.1.kind) 0) (enumerate_from 0 s.points))
-        ∙ sum_by-same (λ (x : ℕ × Point). cond (passes cables p m) (cond (x.0 == m) (power_of_kind x.1.kind) 0) 0) (λ x. cond (x.0 == m) (cond (passes cables p x.0) (power_of_kind x.1.kind) 0) 0) (enumerate_from 0 s.points)
-        (λ x. one x.0 (power_of_kind x.1.kind))
-      where
-        one : (q n : ℕ) → cond (passes cables p m) (cond (q == m) n 0) 0 ≡ cond (q == m) (cond (passes cables p q) n 0) 0
-        one q n = elim (eqb_tells q m) [
-          | inl t ↦ rw t.0 (ap (λ (k : ℕ). cond (passes cables p k) n 0) (sym t.1))
-          | inr t ↦ rw t.0 (elim (true_or_false (passes cables p m)) [ inl u ↦ rw u refl | inr u ↦ rw u refl ])
-        ]
-
 -- the powers of a set without substations go over the cables that leave it
 pub cut-holds : (s : Site) (arcs : List Arc) (cables : List Cable) → IsValid s → AreArcs s arcs → IsLegal s cables → (members : List ℕ) → IsWellFormed s arcs (record { kind = Cut; members = members })
     → Holds s arcs (record { kind = Cut; members = members }) cables
@@ -287,45 +235,22 @@ cut-holds s arcs cables v are g members formed =
     let most : ℕ = largest_capacity s in
     let power : ℕ = sum_by (power_of s) members in
     let number : ℕ = count_by (leaves members) cables in
-    let over : ℕ → Cable → ℕ = λ m c. cond (leaves members c) (cond (passes cables c.from m) (power_of s m) 0) 0 in
     let sum : left row arcs (map (flow_of s cables) arcs) ≡ pos number =
     left-legal s arcs cables are g row (λ p q. one_if (is_member members p && not (is_member members q))) (λ a p q. refl)
     ∙ sum_int-same (λ (c : Cable). one_if (leaves members c) +ℤ pos 0 *ℤ pos (load s cables c.from)) (λ c. pos (cond (leaves members c) 1 0)) cables
     (λ c. plus_none (one_if (leaves members c)) (load s cables c.from) ∙ one_if-pos (leaves members c))
     ∙ sum_int-pos (λ (c : Cable). cond (leaves members c) 1 0) cables in
-    let each = sum_by-le_on (power_of s) (λ m. sum_by (over m) cables) members (λ i m e. member_power s cables g members no_substation m (is_member-at i m e)) in
-    let swapped = sum_by-exchange over members cables in
-    let loads = sum_by-le_on (λ c. sum_by (λ m. over m c) members) (λ c. most * cond (leaves members c) 1 0) cables carried in
+    let over = power-le-loads_out s cables members g (DifferentKeys-ascending members (λ i. formed Ascending i 0)) (λ i m. formed InRange i 0 m) (λ i m e. formed NoSubstation i 0 m e refl) in
+    let loads = sum_by-le_on (λ c. cond (leaves members c) (load s cables c.from) 0) (λ c. most * cond (leaves members c) 1 0) cables
+    (λ i c e. by_test (leaves members c) (load s cables c.from) most (load-most s cables g i c e)) in
     let times = sum_by-times most (λ c. cond (leaves members c) 1 0) cables in
-    let enough : power ≤ most * number = omega (arith, each, swapped, loads, times) in
+    let enough : power ≤ most * number = omega (arith, over, loads, times) in
     let least : rounded_up power most ≤ number = ceiling-least power most number (largest_capacity-some s v) enough in
     Relates-at_least Cut (left row arcs (map (flow_of s cables) arcs)) (pos (rounded_up power most)) refl (omega (arith, ints, sum, least))
   where
-    is_member-at : (i m : ℕ) → slice_get members i ≡ Some m → is_member members m ≡ true
-    is_member-at i m e = list_any-at (λ n. n == m) members i m e (eq-eqb m m refl)
-
-    no_substation : (p : ℕ) → is_member members p ≡ true → ¬ IsTrue (is_substation (kind_of s p))
-    no_substation p h = let r = member_place members p h in formed NoSubstation r.0 0 p r.1 refl
-
-    differ : (i j m n : ℕ) → slice_get members i ≡ Some m → slice_get members j ≡ Some n → j < i → n ≢ m
-    differ i j m n e f l same =
-        let gap : i ≡ j + suc (i - j - 1) = omega arith in
-        let below : n < m = ascending_at members (λ k. formed Ascending k 0) (i - j - 1) j n m f (ap (slice_get members) (sym gap) ∙ e) in
-        omega arith
-
     by_test : (b : Bool) (m n : ℕ) → m ≤ n → cond b m 0 ≤ n * cond b 1 0
     by_test true m n h = omega arith
     by_test false m n h = omega arith
-
-    carried : (i : ℕ) (c : Cable) → slice_get cables i ≡ Some c
-        → sum_by (λ m. cond (leaves members c) (cond (passes cables c.from m) (power_of s m) 0) 0) members ≤ largest_capacity s * cond (leaves members c) 1 0
-    carried i c e =
-        let whole = sum_by-cond (leaves members c) (λ m. cond (passes cables c.from m) (power_of s m) 0) members in
-        let a = member_loads s cables members differ c.from in
-        let b = load-most s cables g i c e in
-        let few : cond (leaves members c) (sum_by (λ m. cond (passes cables c.from m) (power_of s m) 0) members) 0 ≤ largest_capacity s * cond (leaves members c) 1 0 =
-        by_test (leaves members c) (sum_by (λ m. cond (passes cables c.from m) (power_of s m) 0) members) (largest_capacity s) (omega arith) in
-        omega (arith, whole, few)
 
 -- each well-formed row holds of each legal layout
 pub rows-hold : (s : Site) (arcs : List Arc) (cables : List Cable) (row : Row) → IsValid s → AreArcs s arcs → IsWellFormed s arcs row → IsLegal s cables → Holds s arcs row cables

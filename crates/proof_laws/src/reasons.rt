@@ -1,6 +1,6 @@
 //! Reasons for dead nodes.
 
-ghost use Rattle.std.specs.Prelude.{◌≢◌, ◌≤◌, ◌<◌, ℕ, List, All, IsTrue, length, slice_get, Some};
+ghost use Rattle.std.specs.Prelude.{◌≤◌, ℕ, List, All};
 ghost use Rattle.cable_definitions.specs.declared.cable.Arc.{Arc};
 ghost use Rattle.cable_definitions.specs.declared.cable.Cable.{Cable};
 ghost use Rattle.cable_definitions.specs.declared.row.Mark.{Mark};

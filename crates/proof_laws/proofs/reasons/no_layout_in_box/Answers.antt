@@ -1,10 +1,10 @@
-use Rattle.proof_laws.proofs.Lists.{all_at}
 use Rattle.cable_definitions.specs.Row.{IsWellFormed}
+use Rattle.layout_laws.proofs.Typing.{all-at}
 use Rattle.proof_laws.proofs.DeadNodes.{none-row, none-pair, none-load, none-loop, none-power}
 use Rattle.proof_laws.proofs.reasons.no_layout_in_box.Goals as goal
 
 pub returns-clause-row : goal.returns-clause-row
-returns-clause-row c = λ s arcs rows marks bound r v are formed d. none-row s arcs marks d.0 v are (all_at (IsWellFormed s arcs) rows formed r d.0 d.1) d.2
+returns-clause-row c = λ s arcs rows marks bound r v are formed d. none-row s arcs marks d.0 v are (all-at (IsWellFormed s arcs) rows r d.0 formed d.1) d.2
 
 pub returns-clause-pair : goal.returns-clause-pair
 returns-clause-pair c = λ s arcs rows marks bound a b d. none-pair s arcs marks a b d.1
