@@ -2,12 +2,15 @@
 //! takes exponential time, and is meant for sites of few points, with which other planners are compared.
 #![tactic(auto)]
 
-ghost use Rattle.std.specs.Prelude.{◌≡◌, ◌≢◌, ◌+◌, ◌<◌, ◌≤◌, length, vec_len, All, AllPairs, IfOk, OnOk, IfSome, IfNone};
+#[cfg(test)]
+mod tests;
+
+ghost use Rattle.std.specs.Prelude.{◌≡◌, ◌≢◌, ◌+◌, ◌<◌, ◌≤◌, ◌↔◌, IsTrue, length, vec_len, All, AllPairs, IfOk, OnOk, IfSome, IfNone};
 ghost use Rattle.cable_definitions.specs.Layout.{IsLegal, cost, Least, HasNone};
 ghost use Rattle.plain_planner.specs.Choices.{Ascends, Completes, IsBest, IsJudged, cheaper as cheaper_of};
 
 use layout_meaning::{Cable, Layout, Verdict, judge_cables};
-use site_model::{Kind, Site};
+use site_model::{Kind, Point, Site};
 use std::alloc::{AllocError, Global};
 
 /// The cheapest legal layout of a site without bends and with one cable type, with its cost in cost
@@ -24,6 +27,28 @@ pub fn cheapest_layout(alloc: Global, site: &Site) -> Result<Option<(Layout, u64
 {
     let mut chosen = Vec::new(alloc);
     best_from(alloc, site, 0, &mut chosen)
+}
+
+/// Whether the site has one cable type and no bend, as `cheapest_layout` asks.
+pub fn is_plain(site: &Site) -> bool
+    ensures { IsTrue result ↔ ((length site.now.types ≡ 1) × All (λ p. p.kind ≢ Kind.Bend) site.now.points) }
+{
+    if site.types().len() != 1 {
+        return false;
+    }
+    has_no_bend(site.points())
+}
+
+/// Whether none of the points is a bend.
+fn has_no_bend(points: &[Point]) -> bool
+    ensures { IsTrue result ↔ All (λ p. p.kind ≢ Kind.Bend) points.now }
+{
+    for point in points {
+        if let Kind::Bend = point.kind {
+            return false;
+        }
+    }
+    true
 }
 
 /// The cheapest legal layout that completes the cables chosen for the turbines before point `p`.
