@@ -11,10 +11,10 @@ use Rattle.cable_definitions.specs.declared.site.Kind.{Kind}
 use Rattle.cable_definitions.specs.declared.site.Kind.TheVariants.{Turbine, Substation, Bend}
 use Rattle.cable_definitions.specs.declared.site.Point.{Point}
 use Rattle.cable_definitions.specs.Site.{Site}
-use Rattle.cable_definitions.specs.Arcs.{AreArcs, IsCheapest, kind_of, kind_from, is_turbine, is_substation, cost_of}
+use Rattle.cable_definitions.specs.Arcs.{AreArcs, Bears, IsCheapest, kind_of, kind_from, is_turbine, is_substation, cost_of}
 use Rattle.cable_definitions.specs.Walk.{cable_out, walk_end, most_steps, load}
 use Rattle.cable_definitions.specs.Layout.{IsCable, IsLegal, cost}
-use Rattle.cable_definitions.specs.Part.{SameArcs}
+use Rattle.cable_definitions.specs.Part.{SameArcs, AreCheapTyped}
 use Rattle.cable_definitions.specs.Row.{has_arc}
 use Rattle.cable_definitions.specs.Choice.{IsInBox}
 use Rattle.cable_definitions.specs.Tree.{used_cables, IsFull}
@@ -26,6 +26,8 @@ use Rattle.layout_laws.proofs.Walking.{none-from_Starts, Starts-from_out, out_ca
 use Rattle.layout_laws.proofs.Ending.{candidate-out, Starts-substation, bend-fed}
 use Rattle.layout_laws.proofs.Typing.{all-at}
 use Rattle.proof_laws.proofs.Points.{turbine_out}
+use Rattle.layout_laws.proofs.Typed.{cheap_typed-same}
+use Rattle.proof_laws.proofs.Lists.{all_from}
 use Rattle.proof_laws.proofs.Cables.{cable_on, has_arc-from, arc_place}
 use Rattle.proof_laws.proofs.Within.{IsWithin, used_within, used_arc, used_on}
 
@@ -168,3 +170,24 @@ full-used s arcs marks full cables are f g box k a e h =
 -- and it has each arc that is marked used
 pub full-uses : (arcs : List Arc) (marks : List Mark) (cables : List Cable) → IsInBox arcs marks cables → (k : ℕ) (a : Arc) → slice_get arcs k ≡ Some a → slice_get marks k ≡ Some Used → has_arc cables a ≡ true
 full-uses arcs marks cables box k a e f = let on = used_on arcs marks cables box k a e f in has_arc-from cables a on.place on.cable on.is_cable on.from on.to
+
+-- the full layout has the cheapest types of the used cables
+pub full-cheap : (s : Site) (arcs : List Arc) (marks : List Mark) (full : List Cable) → IsFull s arcs marks full → AreCheapTyped s (used_cables arcs marks) full
+full-cheap s arcs marks full f = record { arcs = record { starts = f.starts; ends = f.ends }; types = λ k d h. inl (f.cheapest k d h) }
+
+-- so there is one at most
+pub full-one : (s : Site) (arcs : List Arc) (marks : List Mark) (xs ys : List Cable) → IsFull s arcs marks xs → IsFull s arcs marks ys → xs ≡ ys
+full-one s arcs marks xs ys f g = cheap_typed-same s (used_cables arcs marks) xs ys (full-cheap s arcs marks xs f) (full-cheap s arcs marks ys g)
+
+-- and they are full where they are legal
+pub full-legal : (s : Site) (arcs : List Arc) (marks : List Mark) (cheap : List Cable) → AreCheapTyped s (used_cables arcs marks) cheap → IsLegal s cheap → IsFull s arcs marks cheap
+full-legal s arcs marks cheap c g = record {
+  starts = c.arcs.starts;
+  ends = c.arcs.ends;
+  cheapest = all_from (λ (c : Cable). IsCheapest s c.from c.to (load s cheap c.from) c.grade) cheap (λ i d e.
+      elim (all-at (λ c. IsCheapest s c.from c.to (load s cheap c.from) c.grade ⊎ (((grade : ℕ) → ¬ (Bears s grade (load s cheap c.from))) × (c.grade ≡ 0))) cheap i d c.types e) [
+        | inl best ↦ best
+        | inr none ↦ absurd (none.0 d.grade (record { listed = (g.range i).grade d e; enough = g.capacity d.from i d e refl }))
+      ]);
+  legal = g;
+}

@@ -1,7 +1,7 @@
 -- Where all arcs are decided and no reason is true, the node is full.
-use Rattle.std.proofs.Common.{◌≡◌, ◌≢◌, ℕ, ◌<◌, ◌≤◌, ◌⊎◌, inl, inr, List, slice_get, get_or, Some, None, Option, refl, ap, sym, ◌∙◌, subst, arith}
-use Rattle.std.specs.Prelude.{IsTrue, All}
-use Rattle.std.proofs.lemmas.Option.{slice_get_within, slice_get-get_or}
+use Rattle.std.proofs.Common.{◌≡◌, ◌≢◌, ℕ, ◌<◌, ◌≤◌, ◌⊎◌, inl, inr, List, slice_get, Some, None, Option, refl, ap, sym, ◌∙◌, subst, arith}
+use Rattle.std.specs.Prelude.{IsTrue}
+use Rattle.std.proofs.lemmas.Option.{slice_get_within}
 use Rattle.cable_definitions.specs.declared.cable.Cable.{Cable}
 use Rattle.cable_definitions.specs.declared.cable.Arc.{Arc}
 use Rattle.cable_definitions.specs.declared.cable.Rule.{Rule}
@@ -12,7 +12,7 @@ use Rattle.cable_definitions.specs.declared.site.Kind.TheVariants.{Substation}
 use Rattle.cable_definitions.specs.declared.site.Mode.TheVariants.{Strings}
 use Rattle.cable_definitions.specs.declared.site.Point.{Point}
 use Rattle.cable_definitions.specs.Site.{Site}
-use Rattle.cable_definitions.specs.Arcs.{IsCheapest, Bears, kind_of, kind_from, is_substation, largest_capacity}
+use Rattle.cable_definitions.specs.Arcs.{kind_of, kind_from, is_substation, largest_capacity}
 use Rattle.cable_definitions.specs.Walk.{cable_out, load, load_into}
 use Rattle.cable_definitions.specs.Layout.{IsCable, Keeps, KeepsJoined, PairsClash}
 use Rattle.cable_definitions.specs.Row.{Row, inlet_limit, power_limit}
@@ -20,15 +20,12 @@ use Rattle.cable_definitions.specs.Tree.{used_cables, IsFull}
 use Rattle.number_laws.proofs.Keys.{value_at}
 use Rattle.layout_laws.specs.Typable.{IsTypable}
 use Rattle.layout_laws.proofs.Ending.{load_into-substation}
-use Rattle.layout_laws.proofs.Typing.{all-at, some_cheap_typed, some_bears}
+use Rattle.layout_laws.proofs.Typing.{some_cheap_typed}
 use Rattle.layout_laws.proofs.Typed.{IsLegal-typable}
-use Rattle.proof_laws.proofs.Points.{starts_in-out, turbine_kind, load-most}
+use Rattle.proof_laws.proofs.Points.{starts_in-out, turbine_kind}
 use Rattle.proof_laws.proofs.Within.{used_arc}
+use Rattle.proof_laws.proofs.FullNodes.{full-legal}
 use Rattle.proof_laws.proofs.FullLemma.{NoReason, used-out, used-inlet, used-bend, used-differ, used-candidate, used-end, used-lost, no_used_pair, starts_from_count, within-turbine, within-substation}
-
--- a fact at each place holds of all elements
-all_from : {X : Type 0} → (P : X → Type 0) (xs : List X) → ((i : ℕ) (x : X) → slice_get xs i ≡ Some x → P x) → All P xs
-all_from P xs f k d h = f k (get_or xs k d) (slice_get-get_or xs k d h)
 
 either : (a b : ℕ) → (a ≤ b) ⊎ (b < a)
 either a b = grind arith
@@ -126,19 +123,8 @@ used-typable s arcs rows marks bound n = record {
 pub full-from : (s : Site) (arcs : List Arc) (rows : List Row) (marks : List Mark) (bound : ℕ) → NoReason s arcs rows marks bound → (full : List Cable) × IsFull s arcs marks full
 full-from s arcs rows marks bound n =
     let cheap = some_cheap_typed s (used_cables arcs marks) in
-    let legal = IsLegal-typable s (used_cables arcs marks) cheap.0 n.valid.some_types (used-typable s arcs rows marks bound n) joined cheap.1 in (
-      cheap.0,
-      record {
-        starts = cheap.1.arcs.starts;
-        ends = cheap.1.arcs.ends;
-        cheapest = all_from (λ c. IsCheapest s c.from c.to (load s cheap.0 c.from) c.grade) cheap.0 (λ i c e.
-            elim (all-at (λ c. IsCheapest s c.from c.to (load s cheap.0 c.from) c.grade ⊎ (((grade : ℕ) → ¬ (Bears s grade (load s cheap.0 c.from))) × (c.grade ≡ 0))) cheap.0 i c cheap.1.types e) [
-              | inl best ↦ best
-              | inr none ↦ absurd (let b = some_bears s (load s cheap.0 c.from) n.valid.some_types (load-most s cheap.0 legal i c e) in none.0 b.0 b.1)
-            ]);
-        legal = legal;
-      },
-    )
+    let legal = IsLegal-typable s (used_cables arcs marks) cheap.0 n.valid.some_types (used-typable s arcs rows marks bound n) joined cheap.1 in
+    (cheap.0, full-legal s arcs marks cheap.0 cheap.1 legal)
   where
     joined : (p : ℕ) → KeepsJoined s (used_cables arcs marks) p
     joined p h =

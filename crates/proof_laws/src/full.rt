@@ -9,10 +9,21 @@ ghost use Rattle.cable_definitions.specs.declared.row.Why.{Why};
 ghost use Rattle.cable_definitions.specs.Site.{Site, IsValid};
 ghost use Rattle.cable_definitions.specs.Arcs.{AreArcs};
 ghost use Rattle.cable_definitions.specs.Layout.{IsLegal, cost};
+ghost use Rattle.cable_definitions.specs.Part.{AreCheapTyped};
 ghost use Rattle.cable_definitions.specs.Row.{Row, has_arc};
 ghost use Rattle.cable_definitions.specs.Choice.{IsInBox};
-ghost use Rattle.cable_definitions.specs.Tree.{IsDead, IsFull};
+ghost use Rattle.cable_definitions.specs.Tree.{used_cables, IsDead, IsFull};
 ghost use Rattle.proof_laws.specs.Decided.{AreDecided, HasPointRows};
+
+/// A node is full exactly where its used cables with their cheapest types are a legal layout, and then that is the full layout.
+pub fn full_layout_is_cheap_typed()
+    ensures cheapest { (s : Site) (arcs : List Arc) (marks : List Mark) (full : List Cable) → IsFull s arcs marks full
+        → AreCheapTyped s (used_cables arcs marks) full × IsLegal s full }
+    ensures full { (s : Site) (arcs : List Arc) (marks : List Mark) (cheap : List Cable) → AreCheapTyped s (used_cables arcs marks) cheap
+        → IsLegal s cheap → IsFull s arcs marks cheap }
+    ensures one { (s : Site) (arcs : List Arc) (marks : List Mark) (xs ys : List Cable) → IsFull s arcs marks xs → IsFull s arcs marks ys
+        → xs ≡ ys }
+{}
 
 /// Where a node is full, each legal layout in its box has exactly the arcs marked used, and costs at least as much as the full layout.
 pub fn full_node_is_alone()
