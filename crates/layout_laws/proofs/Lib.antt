@@ -22,3 +22,5 @@ pub mod Monotone
 pub mod Nearest
 -- the straight layout
 pub mod Straightest
+-- the least costs out of the turbines
+pub mod LeastOut

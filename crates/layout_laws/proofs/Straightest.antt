@@ -87,7 +87,7 @@ way_in_or_not s arcs are p q = by (candidate_or_not s arcs are p q) (true_or_not
     by (inr n) h = inr (λ w. n w.0)
 
 -- some type bears the power of a point with a candidate arc
-arc-borne : (s : Site) (p q : ℕ) → 1 ≤ length s.types → IsCandidate s p q → (g : ℕ) × Bears s g (power_of s p)
+pub arc-borne : (s : Site) (p q : ℕ) → 1 ≤ length s.types → IsCandidate s p q → (g : ℕ) × Bears s g (power_of s p)
 arc-borne s p q some c =
     some_bears s (power_of s p) some (subst (λ (k : ℕ). k ≤ largest_capacity s) (sym (ap (λ (o : Option Point). power_of_kind (kind_from o)) c.from_is)) c.bearable)
 

@@ -16,9 +16,13 @@ pub fn cables_out_of_turbines()
     ensures none { (s : Site) (p : ℕ) → IsTrue (is_turbine (kind_of s p)) → ((q : ℕ) → ¬ (IsCandidate s p q)) → HasNone s }
 {}
 
-/// Every legal layout costs at least the sum of the least costs out of the turbines, each at the turbine's own power.
+/// Every legal layout costs at least the sum of the least costs out of the turbines, each at the turbine's own power. There is one such sum
+/// where each turbine has a candidate arc.
 pub fn nearest_arcs()
-    ensures { (s : Site) (total : ℕ) → IsNearest s total → Least s total }
+    ensures least { (s : Site) (total : ℕ) → IsNearest s total → Least s total }
+    ensures exists { (s : Site) (arcs : List Arc) → 1 ≤ length s.types → AreArcs s arcs
+        → ((p : ℕ) → IsTrue (is_turbine (kind_of s p)) → (q : ℕ) × IsCandidate s p q) → (total : ℕ) × IsNearest s total }
+    ensures unique { (s : Site) (a b : ℕ) → IsNearest s a → IsNearest s b → a ≡ b }
 {}
 
 /// Where each turbine has a candidate arc to a substation there is a straight layout, and no other.
