@@ -5,7 +5,8 @@ use Rattle.std.proofs.lemmas.Int.{ints}
 use Rattle.std.specs.Fmt.{decimal}
 use Rattle.cable_definitions.specs.Coordinate.{IsCoordinate}
 use Rattle.cable_definitions.specs.Text.{number}
-use Rattle.cable_text.specs.Number.{spelling, IsOutside}
+use Rattle.cable_definitions.specs.Numeral.{spelling}
+use Rattle.cable_text.specs.Number.{IsOutside}
 use Rattle.cable_text.specs.declared.number.NumberFault.{NumberFault}
 use Rattle.cable_text.specs.declared.number.NumberFault.TheVariants.{NotDecimal, Over}
 use Rattle.cable_text.proofs.Reading.{spelling-same, spelling-number}

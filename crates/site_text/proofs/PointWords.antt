@@ -15,7 +15,8 @@ use Rattle.cable_definitions.specs.declared.site.Point.{Point}
 use Rattle.cable_definitions.specs.declared.site.CableType.{CableType}
 use Rattle.cable_definitions.specs.Site.{IsKind}
 use Rattle.cable_definitions.specs.Text.{number, words, line, IsWord, point_words}
-use Rattle.cable_text.specs.Number.{spelling, numeral, IsDigit, IsNumeral}
+use Rattle.cable_definitions.specs.Numeral.{spelling, numeral}
+use Rattle.cable_text.specs.Number.{IsDigit, IsNumeral}
 use Rattle.cable_text.proofs.Reading.{IsNumeral-numeral}
 use Rattle.site_text.specs.Words.{parts, are_fields}
 use Rattle.site_text.specs.Plain.{IsPlainPoint, IsPlainType, type_words}
