@@ -17,8 +17,9 @@ use crate::walks::loads;
 use cable_definitions::cable::{Cable, Rule};
 use site_model::Site;
 
-/// What is found of a list of cables: a legal layout, with its cost in cost units; or the first
-/// broken rule, with the two numbers that the rule names.
+/// What is found of a list of cables: a legal layout, with its cost in cost units; or the first broken rule at its first place, with the
+/// two numbers that it names. These are the cable's place in the list twice for `Range`, a cable's start and end for `Candidate` and
+/// `Overload`, the two starts, the lower one first, for `Clash`, and else a point's number twice.
 #[derive(Clone, Copy, Debug, PartialEq, Eq)]
 pub enum Verdict {
     Legal(u64),
