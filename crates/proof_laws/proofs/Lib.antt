@@ -24,3 +24,5 @@ pub mod Decided
 pub mod FullLemma
 -- where all arcs are decided and no reason is true, the node is full
 pub mod FullWhole
+-- the value of lawful weights in a box is at most the cost of each legal layout there
+pub mod Weights

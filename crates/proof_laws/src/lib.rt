@@ -4,3 +4,4 @@
 pub mod full;
 pub mod reasons;
 pub mod rows;
+pub mod values;
