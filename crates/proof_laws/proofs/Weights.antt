@@ -18,8 +18,9 @@ use Rattle.number_laws.proofs.Ring.{var, nat, plus, times, same_value, at_most, 
 use Rattle.number_laws.proofs.Sums.{sum_int, sum_int-cons, sum_int-zero, sum_int-times, sum_int-same, sum_int-same_on, sum_int-least_on, sum_int-exchange, sum_int-pos, sum_int-minus}
 use Rattle.number_laws.proofs.NatSums.{sum_by-times}
 use Rattle.layout_laws.proofs.Alike.{cable_out-of}
-use Rattle.proof_laws.proofs.Lists.{true_or_false, all_at, sum_int-enumerate}
-use Rattle.proof_laws.proofs.Cables.{sum_over_arcs}
+use Rattle.layout_laws.proofs.Typing.{all-at}
+use Rattle.layout_laws.proofs.Used.{sum_int-used_arcs}
+use Rattle.proof_laws.proofs.Lists.{true_or_false, sum_int-enumerate}
 use Rattle.proof_laws.proofs.RowsHold.{rows-hold}
 use Rattle.proof_laws.proofs.Choices.{choice_from, layout_choice, choices-above, left-choices}
 
@@ -85,7 +86,7 @@ weighted-le f g rows weights lawful h =
       | inl t ↦ (let q : g row ≡ f row = (h row w.0 k).1 t in let p = ap (λ (z : ℤ). w.1 *ℤ z) q in omega (arith, ints, p))
       | inr n ↦
           times-le w.1 (f row) (g row)
-          (all_at (λ (w : ℕ × ℤ). (row : Row) → slice_get rows w.0 ≡ Some row → ¬ (IsTrue (is_equation row.kind)) → pos 0 ≤ℤ w.1) weights lawful.signs i w e row k (λ t. let q : true ≡ false = sym t ∙ n in cc))
+          (all-at (λ (w : ℕ × ℤ). (row : Row) → slice_get rows w.0 ≡ Some row → ¬ (IsTrue (is_equation row.kind)) → pos 0 ≤ℤ w.1) weights i w lawful.signs e row k (λ t. let q : true ≡ false = sym t ∙ n in cc))
           (h row w.0 k).0
     ]
 
@@ -134,7 +135,7 @@ chosen-cost s arcs cables are g =
     let own = λ (c : Cable). 2 ^ 20 * cost_of s c.from c.to c.grade (load s cables c.from) in
     sum_int-enumerate f arcs 0
     ∙ sum_int-same f (λ a. cond (has_arc cables a) (h a.from a.to) (pos 0)) arcs (λ a. each_arc a (has_arc cables a) (cable_out cables a.from) (load s cables a.from))
-    ∙ sum_over_arcs s arcs cables are g.start g.candidate h
+    ∙ sum_int-used_arcs s arcs cables are g.candidate g.start h
     ∙ sum_int-same_on (λ (c : Cable). h c.from c.to) (λ c. pos (own c)) cables (λ i c e.
     ap (λ (o : Option Cable). pos (2 ^ 20 * cost_with s c.from c.to o (load s cables c.from))) (cable_out-of cables g.start i c e))
     ∙ sum_int-pos own cables
@@ -155,7 +156,7 @@ value-le s arcs rows marks weights value cables v are formed lawful is g box =
     let reduced = reduced-sum s cables g arcs rows weights in
     let costs = chosen-cost s arcs cables are g in
     let sides = weighted-le (λ row. right s row.kind row.members) (λ row. left row arcs (map (flow_of s cables) arcs)) rows weights lawful
-    (λ row r e. rows-hold s arcs cables row v are (all_at (IsWellFormed s arcs) rows formed r row e) g) in
+    (λ row r e. rows-hold s arcs cables row v are (all-at (IsWellFormed s arcs) rows r row formed e) g) in
     let sum = is.sum in
     by_parts _ _ _ _ _ _ _ total sum least reduced costs sides
   where
