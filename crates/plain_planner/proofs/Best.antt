@@ -153,6 +153,14 @@ least_of_all s None one no_bends h = tt
 least_of_all s (Some best) one no_bends h = λ cables l.
     let good = completeness s cables one no_bends l in omega (arith, good.1.same_cost, h.least good.0 (choice_of s good.0 good.1.choice_is) good.1.legal)
 
+-- one cable more than was chosen
+pub pushed_on : (new old chosen : List Cable) (c : Cable) → new ≡ old ++ c ∷ [] → old ≡ chosen → new ≡ chosen ++ c ∷ []
+pushed_on new old chosen c e h = e ∙ ap (λ (xs : List Cable). xs ++ c ∷ []) h
+
+-- and the same when it is left as it was
+pub kept_on : (new old chosen : List Cable) (c : Cable) → new ≡ old → old ≡ chosen ++ c ∷ [] → new ≡ chosen ++ c ∷ []
+kept_on new old chosen c e h = e ∙ h
+
 -- what is left where the last element is taken away
 pub popped : (old new chosen : List Cable) (c : Cable) (n : ℕ) → new ≡ take (n - 1) old → n ≡ length old → old ≡ chosen ++ c ∷ [] → new ≡ chosen
 popped old new chosen c n e l o =

@@ -12,7 +12,7 @@ use Rattle.cable_definitions.specs.declared.site.Point.{Point}
 use Rattle.cable_definitions.specs.Site.{Site, IsValid}
 use Rattle.cable_definitions.specs.Arcs.{IsCandidate, Bears, IsCheapest, cost_of, kind_of, kind_from, power_of, power_of_kind, is_turbine, length_between, capacity_of, capacity_from, largest_capacity, charge_of}
 use Rattle.cable_definitions.specs.Budget.{IsLeastOut, LeastOutAt, AreLeastOut, IsNearest}
-use Rattle.site_model.specs.Best.{IsLeastOutBelow, IsLeastBelow, IsShare, lesser}
+use Rattle.site_model.specs.Best.{IsLeastOutBelow, IsLeastBelow, IsShare, lesser, most_cost}
 use Rattle.site_model.proofs.Cheapest.{some_bears}
 use Rattle.site_model.proofs.Costs.{rate_small, metres_small, charge_small, type_at, cost_read, cost_from_read}
 
@@ -97,10 +97,10 @@ length_between_small (Some a) None = omega arith
 length_between_small None b = omega arith
 
 -- no cable costs more than this at a load that is borne
-pub cost_small : (s : Site) (p q grade load : ℕ) → IsValid s → Bears s grade load → cost_of s p q grade load ≤ 28288108428000000
+pub cost_small : (s : Site) (p q grade load : ℕ) → IsValid s → Bears s grade load → cost_of s p q grade load ≤ most_cost
 cost_small s p q grade load v b = by (slice_get s.types grade) refl
   where
-    by : (o : Option CableType) → slice_get s.types grade ≡ o → cost_of s p q grade load ≤ 28288108428000000
+    by : (o : Option CableType) → slice_get s.types grade ≡ o → cost_of s p q grade load ≤ most_cost
     by None e = omega (arith, cost_from_read s p q load (slice_get s.types grade), ap (λ (x : Option CableType). cost_read (slice_get s.points p) (slice_get s.points q) x load (charge_of s p q)) e)
     by (Some t) e =
         let at = type_at s grade t v e in
@@ -116,7 +116,7 @@ cost_small s p q grade load v b = by (slice_get s.types grade) refl
         )
 
 -- no least cost is more than this
-pub least_small : (s : Site) (p cost : ℕ) → IsValid s → IsLeastOut s p cost → cost ≤ 28288108428000000
+pub least_small : (s : Site) (p cost : ℕ) → IsValid s → IsLeastOut s p cost → cost ≤ most_cost
 least_small s p cost v h = omega (arith, h.reached, cost_small s p h.to h.grade (power_of s p) v h.bears)
 
 -- what is known after all points
@@ -128,7 +128,7 @@ pub ends_some : (s : Site) (p bound : ℕ) (least : Option ℕ) → length s.poi
 ends_some s p bound None l h = tt
 ends_some s p bound (Some cost) l h = all_ends s p bound cost l h
 
-pub ends_small : (s : Site) (p bound : ℕ) (least : Option ℕ) → IsValid s → length s.points ≤ bound → IsLeastBelow s p bound least → IfSome least (λ cost. cost ≤ 28288108428000000)
+pub ends_small : (s : Site) (p bound : ℕ) (least : Option ℕ) → IsValid s → length s.points ≤ bound → IsLeastBelow s p bound least → IfSome least (λ cost. cost ≤ most_cost)
 ends_small s p bound None v l h = tt
 ends_small s p bound (Some cost) v l h = least_small s p cost v (all_ends s p bound cost l h)
 

@@ -1,10 +1,14 @@
 -- The cheapest types and arcs among those that were looked at.
-use Rattle.std.specs.Prelude.{◌≡◌, ℕ, ◌≤◌, ◌<◌, ◌⊎◌, min, Option, Some, None}
+use Rattle.std.specs.Prelude.{◌≡◌, ℕ, ◌+◌, ◌*◌, ◌≤◌, ◌<◌, ◌⊎◌, min, Option, Some, None}
 use Rattle.cable_definitions.specs.declared.site.Kind.{Kind}
 use Rattle.cable_definitions.specs.declared.site.Kind.TheVariants.{Turbine, Substation, Bend}
 use Rattle.cable_definitions.specs.Site.{Site}
 use Rattle.cable_definitions.specs.Arcs.{IsCandidate, Bears, cost_of, power_of}
 use Rattle.cable_definitions.specs.Budget.{IsLeastOut}
+
+-- What a cable costs at most: the greatest length at the greatest price, with the greatest loss at the greatest load, and the greatest charge.
+abbrev pub most_cost : ℕ
+most_cost = 2828428 * (1000000 + 100 * 10000 * 10000) + 1000000000000
 
 -- type number best bears the load at this cost, the least one among the types below the bound that bear it, and of these it has the least number
 pub record IsCheapestBelow (s : Site) (from to load bound best best_cost : ℕ) : Type 0 where

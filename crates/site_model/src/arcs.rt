@@ -5,7 +5,7 @@ ghost use Rattle.cable_definitions.specs.Plane.{IsOn, edges, edges_from, last_co
 ghost use Rattle.cable_definitions.specs.Site.{IsValid, joins};
 ghost use Rattle.cable_definitions.specs.Arcs.{IsCandidate, charge_of, rule_from, cost_by, cost_of, Bears, IsCheapest, is_substation as is_substation_of, is_turbine as is_turbine_of, kind_of, power_of as power_of_point, power_of_kind};
 ghost use Rattle.cable_definitions.specs.Budget.{IsLeastOut, IsNearest};
-ghost use Rattle.site_model.specs.Best.{IsBestBelow, IsLeastBelow, IsShare, lesser as lesser_of};
+ghost use Rattle.site_model.specs.Best.{IsBestBelow, IsLeastBelow, IsShare, most_cost, lesser as lesser_of};
 ghost use Rattle.site_model.specs.Passing.{PassesNone, IsClear};
 
 use crate::Site;
@@ -123,7 +123,7 @@ impl Site {
         requires { p < length self.now.points }
         ensures none { IfNone result (IsTrue (is_turbine_of (kind_of self.now p)) × ((q : ℕ) → ¬ (IsCandidate self.now p q))) }
         ensures share { IfSome result (λ cost. IsShare self.now p cost (kind_of self.now p)) }
-        ensures small { IfSome result (λ cost. cost ≤ 28288108428000000) }
+        ensures small { IfSome result (λ cost. cost ≤ most_cost) }
     {
         let point = &self.points()[p as usize];
         match point.kind {
@@ -138,7 +138,7 @@ impl Site {
         requires power { power ≡ power_of_point self.now p }
         ensures none { IfNone result ((q : ℕ) → ¬ (IsCandidate self.now p q)) }
         ensures least { IfSome result (λ cost. IsLeastOut self.now p cost) }
-        ensures small { IfSome result (λ cost. cost ≤ 28288108428000000) }
+        ensures small { IfSome result (λ cost. cost ≤ most_cost) }
     {
         let mut least = None;
         for q in 0..self.points().len() as u32 {

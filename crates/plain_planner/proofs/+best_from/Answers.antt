@@ -1,7 +1,7 @@
 use Rattle.std.proofs.Common.{◌+◌, List, ◌∷◌, [], ◌++◌, length, get_or, arith, sym, ◌∙◌, ap, subst}
 use Rattle.cable_definitions.specs.declared.cable.Cable.{Cable}
 use Rattle.plain_planner.specs.Choices.{cable_to, Completes, CompletesBelow, IsBest}
-use Rattle.plain_planner.proofs.Best.{one_more_end, all_ends, popped}
+use Rattle.plain_planner.proofs.Best.{one_more_end, all_ends, popped, pushed_on, kept_on}
 use Rattle.plain_planner.proofs.+best_from.Goals as goal
 
 pub loop-to-preserved : goal.loop-to-preserved
@@ -9,8 +9,8 @@ loop-to-preserved n c =
     let s = c.args.site.now in
     let p = c.args.p in
     let chosen = c.args.chosen.now.items in
-    let pushed = c.in_ok-push.ensures.items ∙ ap (λ (xs : List Cable). xs ++ cable_to p c.loop-to.to ∷ []) c.loop-to.invariant.same in
-    let back = c.in_ok-found.ensures.same ∙ pushed in
+    let pushed = pushed_on c.push.new.self.items c.loop-to.chosen.items chosen (cable_to p c.loop-to.to) c.in_ok-push.ensures.items c.loop-to.invariant.same in
+    let back = kept_on c.best_from-in-loop-to.new.chosen.items c.push.new.self.items chosen (cable_to p c.loop-to.to) c.in_ok-found.ensures.same pushed in
     let found = subst (λ (xs : List Cable). IsBest s (Completes s xs (p + 1)) c.in_ok-found.found) pushed c.in_ok-found.ensures.best in
     record {
       same = popped c.best_from-in-loop-to.new.chosen.items c.pop.new.self.items chosen (cable_to p c.loop-to.to) _ c.pop.ensures.rest c.best_from-in-loop-to.new.chosen.ok.0 back;
