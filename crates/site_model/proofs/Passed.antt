@@ -8,7 +8,7 @@ use Rattle.cable_definitions.specs.declared.place.Place.{Place}
 use Rattle.cable_definitions.specs.declared.site.Kind.TheVariants.{Bend}
 use Rattle.cable_definitions.specs.declared.site.Point.{Point}
 use Rattle.cable_definitions.specs.Plane.{IsOn, Meet, edges, edges_from, last_corner}
-use Rattle.site_model.specs.Passing.{IsPassedBy, IsClear}
+use Rattle.site_model.specs.Passing.{IsNotPassed, IsClear}
 
 -- what a test that is false denies
 pub denied : {A : Type 0} → (b : Bool) → IsTrue b ↔ A → b ≡ false → ¬ A
@@ -16,7 +16,7 @@ denied b h e a = false≢true (sym e ∙ h.1 a)
 
 -- the test denies that the point of this number is passed
 pub not_passed : (points : List Point) (from to r : ℕ) (a b : Place) (point : Point) (result : Bool) → r < length points → point ≡ get_or points r point
-    → IsTrue result ↔ ((r ≢ from) × (r ≢ to) × ((point.kind ≢ Bend) × IsOn point.at a b)) → result ≡ false → IsPassedBy points from to a b r
+    → IsTrue result ↔ ((r ≢ from) × (r ≢ to) × ((point.kind ≢ Bend) × IsOn point.at a b)) → result ≡ false → IsNotPassed points from to a b r
 not_passed points from to r a b point result l e says f other is n m kind on =
     let same : other ≡ point = let p = slice_get_read points (length points) r point (omega arith) l e in cc in
     denied result says f (n, m, (subst (λ (p : Point). (p.kind ≢ Bend) × IsOn p.at a b) same (kind, on)))

@@ -6,12 +6,12 @@ use Rattle.cable_definitions.specs.declared.site.Point.{Point}
 use Rattle.cable_definitions.specs.Plane.{IsOn, Meet}
 
 -- point number r is one of these two, or no turbine or substation on the segment A-B
-abbrev pub IsPassedBy : List Point → ℕ → ℕ → Place → Place → ℕ → Type 0
-IsPassedBy points from to a b r = (other : Point) → slice_get points r ≡ Some other → r ≢ from → r ≢ to → other.kind ≢ Bend → ¬ (IsOn other.at a b)
+abbrev pub IsNotPassed : List Point → ℕ → ℕ → Place → Place → ℕ → Type 0
+IsNotPassed points from to a b r = (other : Point) → slice_get points r ≡ Some other → r ≢ from → r ≢ to → other.kind ≢ Bend → ¬ (IsOn other.at a b)
 
 -- no turbine or substation among these points but the two of these numbers stands on the segment A-B
 abbrev pub PassesNone : List Point → ℕ → ℕ → Place → Place → Type 0
-PassesNone points from to a b = (r : ℕ) → IsPassedBy points from to a b r
+PassesNone points from to a b = (r : ℕ) → IsNotPassed points from to a b r
 
 -- the segment A-B meets none of these edges
 abbrev pub IsClear : Place → Place → List (Place × Place) → Type 0

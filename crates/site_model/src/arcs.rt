@@ -223,10 +223,7 @@ fn is_closed(pairs: &[Pair], a: u32, b: u32) -> bool
 fn is_substation(kind: Kind) -> bool
     ensures { result ≡ is_substation_of kind }
 {
-    match kind {
-        Kind::Substation { .. } => true,
-        _ => false,
-    }
+    matches!(kind, Kind::Substation { .. })
 }
 
 /// What a point feeds in.
