@@ -8,3 +8,6 @@ pub mod LineLaws
 pub mod PlainReading
 pub mod PointsReading
 pub mod PlainText
+pub mod Saying
+pub mod Held
+pub mod Lines

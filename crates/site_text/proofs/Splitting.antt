@@ -1,11 +1,11 @@
 -- Words between single spaces: what a line's text is cut into, and that a text has one list of words.
-use Rattle.std.proofs.Common.{◌≡◌, ◌≢◌, ℕ, ◌+◌, ◌≤◌, ◌<◌, List, [], ◌∷◌, ◌++◌, length, map, true, false, not, ◌==◌, refl, sym, ap, ◌∙◌, arith, All, take, drop, get_or, take-append-drop, Option, Some, None, Bor}
+use Rattle.std.proofs.Common.{◌≡◌, ◌≢◌, ℕ, ◌+◌, ◌≤◌, ◌<◌, List, [], ◌∷◌, ◌++◌, length, map, true, false, not, ◌==◌, refl, sym, ap, ◌∙◌, arith, All, take, drop, get_or, take-append-drop, Option, Some, None, Bor, cond}
 use Rattle.std.specs.List.{slice_split, onto_first, join_with_byte, AllPass}
 use Rattle.std.specs.Option.{is_some, option_copied}
 use Rattle.std.proofs.lemmas.List.Splits.{slice_split_none, slice_split_at, join_with_byte-slice_split}
-use Rattle.std.proofs.lemmas.List.Elements.{All-weaker, All-head, All-tail, All-from_get_or, All-same}
+use Rattle.std.proofs.lemmas.List.Elements.{All-weaker, All-head, All-tail, All-from_get_or, All-same, All-nil, All-cons}
 use Rattle.std.proofs.lemmas.List.{length-take-le, get_or-take, drop_more, take_all}
-use Rattle.std.proofs.lemmas.Bool.{not-true, ne_eqb, cond_both}
+use Rattle.std.proofs.lemmas.Bool.{not-true, not_from_false, ne_eqb, cond_both}
 use Rattle.cable_definitions.specs.Text.{words, IsWord}
 use Rattle.site_text.specs.Words.{parts, rest_parts, are_fields}
 
@@ -69,3 +69,24 @@ rest_some (Some text) e = parts_some text.now
 pub rest_none : (rest : Option (Bor (List ℕ))) → is_some rest ≡ false → are_fields 0 (rest_parts (option_copied rest)) ≡ true
 rest_none None e = refl
 rest_none (Some text) e = cc
+
+-- a part with no space and no newline
+abbrev pub Plain : List ℕ → Type 0
+Plain w = AllPass (λ b. not (b == 32)) w × AllPass (λ b. not (b == 10)) w
+
+-- no part holds a space, nor a newline where the text holds none
+pub parts_plain : (text : List ℕ) → AllPass (λ b. not (b == 10)) text → All Plain (parts text)
+parts_plain [] h = All-cons Plain [] [] (All-nil (λ b. not (b == 32) ≡ true), All-nil (λ b. not (b == 10) ≡ true)) (All-nil Plain)
+parts_plain (b ∷ bs) h = next (parts bs) (parts_plain bs (All-tail (λ x. not (x == 10) ≡ true) b bs h)) (All-head (λ x. not (x == 10) ≡ true) b bs h)
+  where
+    onto : (ws : List (List ℕ)) → (b == 32) ≡ false → not (b == 10) ≡ true → All Plain ws → All Plain (onto_first b ws)
+    onto [] e this k = All-cons Plain (b ∷ []) [] (All-cons (λ x. not (x == 32) ≡ true) b [] (not_from_false (b == 32) e) (All-nil (λ x. not (x == 32) ≡ true)), All-cons (λ x. not (x == 10) ≡ true) b [] this (All-nil (λ x. not (x == 10) ≡ true))) (All-nil Plain)
+    onto (w ∷ ws) e this k =
+        let p = All-head Plain w ws k in
+        All-cons Plain (b ∷ w) ws (All-cons (λ x. not (x == 32) ≡ true) b w (not_from_false (b == 32) e) p.0, All-cons (λ x. not (x == 10) ≡ true) b w this p.1) (All-tail Plain w ws k)
+
+    next : (ws : List (List ℕ)) → All Plain ws → not (b == 10) ≡ true → All Plain (cond (b == 32) ([] ∷ ws) (onto_first b ws))
+    next ws k this =
+        cond_both (b == 32) ([] ∷ ws) (onto_first b ws) (λ vs. All Plain vs)
+        (λ e. All-cons Plain [] ws (All-nil (λ x. not (x == 32) ≡ true), All-nil (λ x. not (x == 10) ≡ true)) k)
+        (λ e. onto ws e this k)

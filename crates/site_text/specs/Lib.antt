@@ -6,3 +6,5 @@ pub mod Keyword
 pub mod Line
 -- the parts of a site that are read so far
 pub mod Plain
+-- the items of lines as the reader holds them
+pub mod Item

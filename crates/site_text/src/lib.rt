@@ -2,6 +2,7 @@
 #![tactic(auto)]
 
 mod decode;
+mod item;
 mod keyword;
 mod line;
 mod plain;

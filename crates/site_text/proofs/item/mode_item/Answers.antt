@@ -1,0 +1,11 @@
+use Rattle.std.specs.Option.{option_copied}
+use Rattle.site_text.specs.declared.keyword.Keyword.TheVariants.{Mode}
+use Rattle.site_text.specs.Words.{rest_parts}
+use Rattle.site_text.proofs.Saying.{stray, said_mode}
+use Rattle.site_text.proofs.item.mode_item.Goals as goal
+
+pub returns-in-Some : goal.returns-in-Some
+returns-in-Some c = λ version. said_mode version (rest_parts (option_copied c.args.rest)) c.in-Some.word.now c.in-Some.ensures.words c.in-Some.ensures.full c.mode_of.ensures
+
+pub returns-in-None : goal.returns-in-None
+returns-in-None c = λ version. stray version Mode (rest_parts (option_copied c.args.rest)) c.in-None.ensures.none

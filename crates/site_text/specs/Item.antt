@@ -1,0 +1,98 @@
+-- The items of lines as the reader holds them, and what they stand for.
+use Rattle.std.specs.Prelude.{◌≡◌, ℕ, ◌-◌, ◌^◌, ℤ, pos, negsuc, int_le, ◌&&◌, List, [], ◌∷◌, length, Bool, true, Option, Some, None, ◌⊎◌, if◌then◌else◌}
+use Rattle.cable_definitions.specs.declared.site.Version.{Version}
+use Rattle.cable_definitions.specs.declared.site.Mode.{Mode}
+use Rattle.cable_definitions.specs.Text.{Reads, Whole}
+use Rattle.cable_definitions.specs.Items.{RawKind, ATurbine, ASubstation, ABend, RawRule, ACharge, AClosing, RawItem, AVersion, AMode, AType, APoint, AnObstacle, ACorner, APair, TheEnd, Misshapen, Stray as AStray, Unended, Missing, Overlong, NamesMode, HasWords, IsItemOf}
+use Rattle.site_text.specs.declared.item.ItemKind.{ItemKind}
+use Rattle.site_text.specs.declared.item.ItemKind.TheVariants.{Turbine, Substation, Bend}
+use Rattle.site_text.specs.declared.item.ItemRule.{ItemRule}
+use Rattle.site_text.specs.declared.item.ItemRule.TheVariants.{Charge, Closing}
+use Rattle.site_text.specs.declared.item.Item.{Item}
+use Rattle.site_text.specs.declared.item.Item.TheVariants.{Version as VersionItem, Mode as ModeItem, CableType, Point, Obstacle, Corner, Pair, End, Stray}
+use Rattle.site_text.specs.Words.{are_fields}
+
+-- the kind of an item
+abbrev pub kind_held : ItemKind → RawKind
+kind_held (Turbine power) = ATurbine power
+kind_held (Substation feeders power) = ASubstation feeders power
+kind_held Bend = ABend
+
+-- the rule of an item
+abbrev pub rule_held : ItemRule → RawRule
+rule_held (Charge amount) = ACharge amount
+rule_held Closing = AClosing
+
+-- an item as it is held
+abbrev pub item_held : Item → RawItem
+item_held (VersionItem v) = AVersion v
+item_held (ModeItem m) = AMode m
+item_held (CableType capacity price loss) = AType capacity price loss
+item_held (Point name x y kind) = APoint name.now x y (kind_held kind)
+item_held (Obstacle k) = AnObstacle k
+item_held (Corner x y) = ACorner x y
+item_held (Pair a b rule) = APair a.now b.now (rule_held rule)
+item_held End = TheEnd
+item_held Stray = AStray
+
+-- a number as 128 bits hold it: one beyond them is held as the greatest
+abbrev pub held : ℤ → ℤ
+held z = if int_le (negsuc (2 ^ 127 - 1)) z && int_le z (pos (2 ^ 127 - 1)) then z else pos (2 ^ 127 - 1)
+
+-- the same of what a word spells
+abbrev pub held_number : Option ℤ → Option ℤ
+held_number None = None
+held_number (Some z) = Some (held z)
+
+-- the kind of a point with its numbers as they are held
+abbrev pub held_kind : RawKind → RawKind
+held_kind (ATurbine power) = ATurbine (held_number power)
+held_kind (ASubstation feeders power) = ASubstation (held_number feeders) (held_number power)
+held_kind ABend = ABend
+
+-- the rule of a pair with its number as it is held
+abbrev pub held_rule : RawRule → RawRule
+held_rule (ACharge amount) = ACharge (held_number amount)
+held_rule AClosing = AClosing
+
+-- an item with its numbers as they are held
+abbrev pub held_item : RawItem → RawItem
+held_item (AVersion v) = AVersion (held_number v)
+held_item (AMode m) = AMode m
+held_item (AType capacity price loss) = AType (held_number capacity) (held_number price) (held_number loss)
+held_item (APoint name x y kind) = APoint name (held_number x) (held_number y) (held_kind kind)
+held_item (AnObstacle k) = AnObstacle (held_number k)
+held_item (ACorner x y) = ACorner (held_number x) (held_number y)
+held_item (APair a b rule) = APair a b (held_rule rule)
+held_item TheEnd = TheEnd
+held_item Misshapen = Misshapen
+held_item AStray = AStray
+held_item Unended = Unended
+held_item Missing = Missing
+held_item Overlong = Overlong
+
+-- the word is read as this number, as it is held
+pub record ReadsAs (word : List ℕ) (number : Option ℤ) : Type 0 where
+  pub value : Option ℤ
+  pub reads : Reads word value
+  pub held_is : number ≡ held_number value
+
+-- the word names this mode
+abbrev pub NamesModeOf : List ℕ → Option Mode → Type 0
+NamesModeOf word mode = NamesMode word mode
+
+-- no word of these is empty
+abbrev pub AreFull : List (List ℕ) → Type 0
+AreFull ws = are_fields (length ws) ws ≡ true
+
+-- the words say this item, as it is held, or it is stray and they say none
+pub record IsSaid (version : Version) (ws : List (List ℕ)) (item : Item) : Type 0 where
+  pub raw : RawItem
+  pub held_is : item_held item ≡ held_item raw
+  pub says : (AreFull ws × HasWords version ws raw) ⊎ ((raw ≡ AStray) × ((other : RawItem) → AreFull ws → HasWords version ws other → ⊥))
+
+-- the line's text says this item, as it is held
+pub record IsItemOfLine (version : Version) (text : List ℕ) (item : Item) : Type 0 where
+  pub raw : RawItem
+  pub held_is : item_held item ≡ held_item raw
+  pub item_of : IsItemOf version (Whole text) raw
