@@ -7,17 +7,16 @@ mod ending;
 mod notes;
 mod plan;
 mod planning;
+mod reading;
 mod run;
-mod stubs;
 #[cfg(test)]
 mod tests;
 mod words;
 
 use cable_text::{StdSink, StdSource};
 use run::run;
-use std::env;
-use std::io;
 use std::process::ExitCode;
+use std::{env, io};
 
 fn main(rt: HostRuntime) -> ExitCode {
     let alloc = rt.alloc();

@@ -2,11 +2,11 @@ ghost use Rattle.std.specs.Prelude.{◌≡◌};
 ghost use Rattle.cable_program.specs.Ends.{PlanEnds, EndsWith};
 ghost use Rattle.cable_program.specs.Planning.{PrintEnds, IsFinal};
 
+use crate::document::write_plan;
 use crate::ending::Ending;
 use crate::notes::{note_fault, refuse_site};
-use crate::document::write_plan;
 use crate::planning::planned;
-use crate::stubs::read_whole;
+use crate::reading::read_whole;
 use cable_definitions::claim::Claim;
 use cable_text::{Sink, Source};
 use std::alloc::Global;

@@ -41,24 +41,69 @@ fn planned(alloc: Global, input: &str) -> Result<Ran, AllocError> {
     ran_with(alloc, &["plan", "8191"], input, &[], &[], &[])
 }
 
-const FIRST: &str = "site 1\nmode tree\ntype 400 100\nsubstation S 0 0 4 10000\nturbine A 300 400 100\nend site\n";
+const FIRST: &str =
+    "site 1\nmode tree\ntype 400 100\nsubstation S 0 0 4 10000\nturbine A 300 400 100\nend site\n";
 
 /// The site in its lines, and what a plan of it adds to them behind the budget.
 const PLANS: [(&str, u8, &str); 12] = [
     (FIRST, 0, "layout 1\ncable A S 0\noptimal 50000\n"),
-    ("site 1\nmode tree\ntype 400 1\nsubstation S 0 0 4 10000\nturbine A 1 1 100\nend site\n", 0, "layout 1\ncable A S 0\noptimal 2\n"),
-    ("site 1\nmode tree\ntype 400 1\nsubstation S 0 0 4 10000\nend site\n", 0, "layout 0\noptimal 0\n"),
-    ("site 1\nmode tree\ntype 400 1\nend site\n", 0, "layout 0\noptimal 0\n"),
-    ("site 1\nmode tree\ntype 400 1\nturbine A 0 0 100\nend site\n", 5, "layout 0\ninfeasible\n"),
-    ("site 1\nmode tree\ntype 100 1\nsubstation S 0 0 4 10000\nturbine A 1000 0 100\nturbine B 2000 0 100\nend site\n", 5, "layout 0\ninfeasible\n"),
-    ("site 1\nmode tree\ntype 400 1\nsubstation S 0 0 4 10000\nturbine A 0 1000 100\nturbine B -300 1400 100\nturbine C 300 1400 100\nend site\n", 0, "layout 3\ncable A S 0\ncable B A 0\ncable C A 0\noptimal 2000\n"),
-    ("site 1\nmode tree\ntype 200 1\nsubstation S 0 0 1 10000\nturbine A 0 1000 100\nturbine B 1000 0 100\nturbine C 1000 1000 100\nend site\n", 5, "layout 0\ninfeasible\n"),
-    ("site 1\nmode tree\ntype 400 1\nsubstation S 0 0 4 250\nturbine A 0 1000 100\nturbine B 1000 0 100\nturbine C 1000 1000 100\nend site\n", 5, "layout 0\ninfeasible\n"),
-    ("site 1\nmode tree\ntype 400 1\nsubstation S 1000000 1000000 4 10000\nturbine A -1000000 -1000000 100\nend site\n", 0, "layout 1\ncable A S 0\noptimal 2828428\n"),
+    (
+        "site 1\nmode tree\ntype 400 1\nsubstation S 0 0 4 10000\nturbine A 1 1 100\nend site\n",
+        0,
+        "layout 1\ncable A S 0\noptimal 2\n",
+    ),
+    (
+        "site 1\nmode tree\ntype 400 1\nsubstation S 0 0 4 10000\nend site\n",
+        0,
+        "layout 0\noptimal 0\n",
+    ),
+    (
+        "site 1\nmode tree\ntype 400 1\nend site\n",
+        0,
+        "layout 0\noptimal 0\n",
+    ),
+    (
+        "site 1\nmode tree\ntype 400 1\nturbine A 0 0 100\nend site\n",
+        5,
+        "layout 0\ninfeasible\n",
+    ),
+    (
+        "site 1\nmode tree\ntype 100 1\nsubstation S 0 0 4 10000\nturbine A 1000 0 100\nturbine B 2000 0 100\nend site\n",
+        5,
+        "layout 0\ninfeasible\n",
+    ),
+    (
+        "site 1\nmode tree\ntype 400 1\nsubstation S 0 0 4 10000\nturbine A 0 1000 100\nturbine B -300 1400 100\nturbine C 300 1400 100\nend site\n",
+        0,
+        "layout 3\ncable A S 0\ncable B A 0\ncable C A 0\noptimal 2000\n",
+    ),
+    (
+        "site 1\nmode tree\ntype 200 1\nsubstation S 0 0 1 10000\nturbine A 0 1000 100\nturbine B 1000 0 100\nturbine C 1000 1000 100\nend site\n",
+        5,
+        "layout 0\ninfeasible\n",
+    ),
+    (
+        "site 1\nmode tree\ntype 400 1\nsubstation S 0 0 4 250\nturbine A 0 1000 100\nturbine B 1000 0 100\nturbine C 1000 1000 100\nend site\n",
+        5,
+        "layout 0\ninfeasible\n",
+    ),
+    (
+        "site 1\nmode tree\ntype 400 1\nsubstation S 1000000 1000000 4 10000\nturbine A -1000000 -1000000 100\nend site\n",
+        0,
+        "layout 1\ncable A S 0\noptimal 2828428\n",
+    ),
     // Only A to T and B to S could bear the loads, and these cross.
-    ("site 1\nmode tree\ntype 200 1\nsubstation S 0 0 1 100\nsubstation T 1000 0 1 200\nturbine A 0 1000 200\nturbine B 1000 1000 100\nend site\n", 5, "layout 0\ninfeasible\n"),
+    (
+        "site 1\nmode tree\ntype 200 1\nsubstation S 0 0 1 100\nsubstation T 1000 0 1 200\nturbine A 0 1000 200\nturbine B 1000 1000 100\nend site\n",
+        5,
+        "layout 0\ninfeasible\n",
+    ),
     // The load of both turbines goes through A.
-    ("site 1\nmode tree\ntype 300 2\nsubstation S 0 0 1 300\nturbine A 1000 0 100\nturbine B 2000 1 200\nend site\n", 0, "layout 2\ncable A S 0\ncable B A 0\noptimal 4002\n"),
+    (
+        "site 1\nmode tree\ntype 300 2\nsubstation S 0 0 1 300\nturbine A 1000 0 100\nturbine B 2000 1 200\nend site\n",
+        0,
+        "layout 2\ncable A S 0\ncable B A 0\noptimal 4002\n",
+    ),
 ];
 
 #[test]
@@ -128,7 +173,11 @@ fn other_words_are_usage(rt: HostRuntime) -> Result<(), AllocError> {
         let ran = ran_with(alloc, words, FIRST, &[], &[], &[])?;
         assert_eq!(rt; ran.status, 1);
         assert!(rt; ran.out.is_empty());
-        assert!(rt; ran.note.starts_with(b"usage: plan N [LANES], check, site, judge, report, drill K TURBINES N\n"));
+        assert!(rt;
+            ran.note.starts_with(
+                b"usage: plan N [LANES], check, site, judge, report, drill K TURBINES N\n"
+            )
+        );
         let untold = ran_with(alloc, words, FIRST, &[], &[], &[1])?;
         assert_eq!(rt; untold.status, 8);
         assert!(rt; untold.note.as_slice() == b"write fault\n".as_slice());
