@@ -26,3 +26,7 @@ pub mod FullLemma
 pub mod FullWhole
 -- the value of lawful weights in a box is at most the cost of each legal layout there
 pub mod Weights
+-- the boxes of the made nodes
+pub mod Boxes
+-- what accepted items keep: bounds in boxes, and open leaves that cover all legal layouts
+pub mod Sound
