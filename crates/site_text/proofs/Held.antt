@@ -1,6 +1,6 @@
 -- Numbers as 128 bits hold them.
-use Rattle.std.proofs.Common.{◌≡◌, ℕ, ◌+◌, ◌-◌, ◌^◌, ◌≤◌, ◌<◌, ◌⊎◌, inl, inr, ℤ, pos, negsuc, ◌≤ℤ◌, List, Some, refl, sym, ap, ◌∙◌, arith, true, leb}
-use Rattle.std.specs.Prelude.{◌<ℤ◌, ◌&&◌}
+use Rattle.std.proofs.Common.{◌≡◌, ℕ, ◌-◌, ◌^◌, inl, inr, ℤ, pos, negsuc, ◌≤ℤ◌, List, Some, refl, sym, ap, ◌∙◌, arith, true, leb}
+use Rattle.std.specs.Prelude.{◌&&◌}
 use Rattle.std.proofs.lemmas.Int.{ints}
 use Rattle.std.proofs.lemmas.Bool.{le-leb, lt-leb, cond-true, cond-false, and_left, and_from}
 use Rattle.cable_definitions.specs.Text.{number}

@@ -1,7 +1,6 @@
 -- Lines in front of bytes are found in one way.
-use Rattle.std.proofs.Common.{◌≡◌, ◌≢◌, ℕ, zero, suc, ◌+◌, ◌≤◌, ◌<◌, ◌⊎◌, ℤ, pos, List, [], ◌∷◌, ◌++◌, length, map, take, get_or, true, not, ◌==◌, refl, sym, ap, ◌∙◌, subst, append_assoc, arith, All, AllPairs, Option, Some, None, codes, inl, inr}
+use Rattle.std.proofs.Common.{◌≡◌, ◌≢◌, ℕ, ◌≤◌, ◌<◌, List, [], ◌∷◌, ◌++◌, length, map, take, get_or, true, not, ◌==◌, refl, sym, ap, ◌∙◌, append_assoc, arith, All, codes}
 use Rattle.std.specs.List.{concat, AllZip}
-use Rattle.std.specs.Fmt.{decimal}
 use Rattle.std.proofs.lemmas.Bool.{not-true, eq-eqb, both_ways}
 use Rattle.std.proofs.lemmas.List.{get_or_at, get_or-take, length-take-le, length-append}
 use Rattle.std.proofs.lemmas.List.Elements.{All-head, All-tail, All-nil, All-cons, All-append}
@@ -9,9 +8,8 @@ use Rattle.cable_definitions.specs.declared.place.Place.{Place}
 use Rattle.cable_definitions.specs.declared.site.Kind.{Kind}
 use Rattle.cable_definitions.specs.declared.site.Kind.TheVariants.{Turbine, Substation, Bend}
 use Rattle.cable_definitions.specs.declared.site.Point.{Point}
-use Rattle.cable_definitions.specs.Plane.{SamePlace}
 use Rattle.cable_definitions.specs.Text.{number, words, line, IsWord, HasNoNewline, IsNext, Piece, Whole, LongLine, CutLine, NoLine, point_words, point_line}
-use Rattle.site_text.specs.Plain.{IsPlainPoint, ArePlainPoints, points_text, StartsWithLine}
+use Rattle.site_text.specs.Plain.{IsPlainPoint, points_text, StartsWithLine}
 use Rattle.site_text.proofs.Numbers.{number_same, small_coordinate}
 use Rattle.site_text.proofs.PointWords.{fields_are_words, letters_word, some_words}
 use Rattle.site_text.proofs.Splitting.{words_injective}

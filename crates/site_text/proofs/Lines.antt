@@ -1,12 +1,12 @@
 -- The item of a line is what its words say.
-use Rattle.std.proofs.Common.{◌≡◌, ◌≢◌, ℕ, zero, suc, ◌≤◌, ◌<◌, ◌⊎◌, inl, inr, List, [], ◌∷◌, ◌++◌, length, true, not, ◌==◌, refl, sym, ap, ◌∙◌, subst, All}
+use Rattle.std.proofs.Common.{◌≡◌, ◌≢◌, ℕ, ◌⊎◌, inl, inr, List, [], ◌∷◌, not, ◌==◌, sym, ap, ◌∙◌, subst, All}
 use Rattle.std.specs.List.{AllPass}
 use Rattle.std.proofs.lemmas.List.Elements.{All-head, All-tail, All-nil, All-cons}
 use Rattle.cable_definitions.specs.declared.site.Version.{Version}
-use Rattle.cable_definitions.specs.Text.{words, IsWord, HasNoNewline, Whole}
+use Rattle.cable_definitions.specs.Text.{IsWord, HasNoNewline, Whole}
 use Rattle.cable_definitions.specs.Items.{RawItem, Stray as AStray, HasWords, IsLineOf, IsItemOf}
 use Rattle.site_text.specs.declared.item.Item.{Item}
-use Rattle.site_text.specs.Words.{parts, are_fields}
+use Rattle.site_text.specs.Words.{parts}
 use Rattle.site_text.specs.Item.{AreFull, IsSaid, IsItemOfLine}
 use Rattle.site_text.proofs.Splitting.{words-parts, parts-words, parts_plain}
 use Rattle.site_text.proofs.PointWords.{fields_of_words}

@@ -1,8 +1,7 @@
 -- Numbers of a site: their spelling is one word, and tells the number.
-use Rattle.std.proofs.Common.{◌≡◌, ◌≢◌, ℕ, ◌^◌, ◌≤◌, ◌<◌, ℤ, pos, negsuc, ◌≤ℤ◌, List, sym, ◌∙◌, ap, refl, arith, inl, inr}
-use Rattle.std.specs.Prelude.{◌<ℤ◌, neg_ℤ}
+use Rattle.std.proofs.Common.{◌≡◌, ◌≢◌, ℕ, ◌^◌, ◌<◌, ℤ, pos, ◌≤ℤ◌, List, sym, ◌∙◌, refl, arith, inl, inr}
+use Rattle.std.specs.Prelude.{neg_ℤ}
 use Rattle.std.proofs.lemmas.Int.{ints}
-use Rattle.std.specs.Fmt.{decimal}
 use Rattle.cable_definitions.specs.Coordinate.{IsCoordinate}
 use Rattle.cable_definitions.specs.Text.{number}
 use Rattle.cable_definitions.specs.Numeral.{spelling}

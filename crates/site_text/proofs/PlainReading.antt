@@ -1,17 +1,15 @@
 -- What a reader of lines finds in the bytes to come, where these are told.
-use Rattle.std.proofs.Common.{◌≡◌, ◌≢◌, ℕ, ◌+◌, ◌≤◌, ◌<◌, List, [], ◌∷◌, ◌++◌, Option, Some, None, Result, Ok, Err, IfNone, refl, sym, ap, ◌∙◌, subst, append_assoc, length, map, All, codes, arith, ◌*◌, ℤ, pos, negsuc}
-use Rattle.std.proofs.lemmas.List.{append_cancel_left, append_cancel_right}
-use Rattle.std.specs.List.{concat}
-use Rattle.cable_definitions.specs.Text.{number, line, words, Piece, Whole, LongLine, CutLine, NoLine, HasNoNewline, point_line, type_line}
+use Rattle.std.proofs.Common.{◌≡◌, ◌≢◌, ℕ, ◌+◌, ◌≤◌, List, [], ◌∷◌, ◌++◌, Option, Some, None, Result, Ok, Err, IfNone, refl, sym, ap, ◌∙◌, subst, append_assoc, length, All, codes, arith, ◌*◌, ℤ, pos, negsuc}
+use Rattle.cable_definitions.specs.Text.{number, words, Piece, Whole, LongLine, CutLine, NoLine, HasNoNewline, type_line}
 use Rattle.cable_text.specs.Stream.{Gives}
 use Rattle.cable_text.specs.Lines.{LinesState, ahead, Finds, ReadsPiece, ReadsLine}
 use Rattle.cable_text.specs.declared.fault.Line.{Line}
-use Rattle.cable_text.specs.declared.fault.Line.TheVariants.{Text, End}
+use Rattle.cable_text.specs.declared.fault.Line.TheVariants.{Text}
 use Rattle.cable_text.specs.declared.fault.LineFault.{LineFault}
-use Rattle.cable_text.specs.declared.fault.LineFault.TheVariants.{TooLong, NoNewline, Read}
+use Rattle.cable_text.specs.declared.fault.LineFault.TheVariants.{TooLong, NoNewline}
 use Rattle.site_text.specs.Plain.{Never, StartsWith, StartsWithLine, StartsWithType, IsPlainType, type_words}
 use Rattle.site_text.proofs.LineLaws.{no_line, line_apart, line_front, words_plain}
-use Rattle.site_text.proofs.Numbers.{IsSmall, small_count, small_coordinate}
+use Rattle.site_text.proofs.Numbers.{IsSmall, small_count}
 use Rattle.site_text.proofs.PointWords.{type_words_are}
 use Rattle.std.proofs.lemmas.Fmt.{length-decimal-le_wide}
 use Rattle.std.proofs.lemmas.Int.{ints}

@@ -1,5 +1,5 @@
 -- The text of a site that is built: its lines one after another, and what a reader finds of them.
-use Rattle.std.proofs.Common.{◌≡◌, ◌≢◌, ℕ, List, [], ◌∷◌, ◌++◌, Option, Some, None, refl, sym, ap, ◌∙◌, subst, append_assoc, length, map, get_or, All, AllPairs, codes, arith, inl, inr}
+use Rattle.std.proofs.Common.{◌≡◌, ℕ, List, [], ◌∷◌, ◌++◌, Option, Some, None, refl, sym, ap, ◌∙◌, subst, append_assoc, length, map, All, codes, arith, inl, inr}
 use Rattle.std.proofs.lemmas.List.{append_cancel_left, append-nil}
 use Rattle.std.proofs.lemmas.List.Elements.{All-head, All-tail}
 use Rattle.std.specs.List.{concat}
@@ -7,18 +7,14 @@ use Rattle.cable_definitions.specs.declared.site.Point.{Point}
 use Rattle.cable_definitions.specs.declared.site.CableType.{CableType}
 use Rattle.cable_definitions.specs.declared.site.Version.{Version}
 use Rattle.cable_definitions.specs.declared.site.Version.TheVariants.{One}
-use Rattle.cable_definitions.specs.declared.site.Mode.{Mode}
 use Rattle.cable_definitions.specs.declared.site.Mode.TheVariants.{Tree}
-use Rattle.cable_definitions.specs.declared.site.Pair.{Pair}
-use Rattle.cable_definitions.specs.declared.place.Place.{Place}
 use Rattle.cable_definitions.specs.Site.{Site, IsValid, IsCableType}
 use Rattle.cable_definitions.specs.Built.{IsBuiltSite}
-use Rattle.cable_definitions.specs.Text.{line, words, site_line, mode_line, type_line, point_line, point_words, obstacle_lines, pair_line, site_lines}
+use Rattle.cable_definitions.specs.Text.{line, site_line, mode_line, type_line, point_line, point_words, obstacle_lines, site_lines}
 use Rattle.cable_text.specs.Stream.{Gives, IsAtEnd}
 use Rattle.site_text.specs.Plain.{Never, StartsWith, StartsWithType, StartsWithPoints, IsPlainText, IsTextOf, IsPlainType, IsPlainPoint, ArePlainPoints, points_text, type_words}
 use Rattle.site_text.proofs.PointWords.{fields_are_words, some_words, type_words_are}
 use Rattle.site_text.proofs.LineLaws.{end_words, end_words_are, no_end_words, agree, lines_apart}
-use Rattle.site_text.proofs.PlainReading.{never_less}
 use Rattle.site_text.proofs.PointsReading.{Gives-then}
 
 -- lists regrouped

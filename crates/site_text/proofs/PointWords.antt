@@ -1,8 +1,7 @@
 -- The words of a point and of a cable type: they are words, and the line tells them.
-use Rattle.std.proofs.Common.{◌≡◌, ◌≢◌, ℕ, zero, suc, ◌+◌, ◌≤◌, ◌<◌, ℤ, pos, negsuc, List, [], ◌∷◌, ◌++◌, length, Bool, true, false, not, ◌==◌, ◌&&◌, ◌||◌, nat_le, get_or, slice_index, EachIndex, refl, sym, ap, ◌∙◌, arith, All, Option, IfSome, IfNone, Some, None, codes}
+use Rattle.std.proofs.Common.{◌≡◌, ◌≢◌, ℕ, suc, ◌+◌, ◌≤◌, ℤ, pos, negsuc, List, [], ◌∷◌, ◌++◌, length, Bool, true, false, not, ◌==◌, ◌&&◌, nat_le, get_or, slice_index, EachIndex, refl, sym, ap, ◌∙◌, arith, All, Option, IfNone, Some, None, codes}
 use Rattle.std.specs.List.{AllPass, list_all}
 use Rattle.std.specs.Fmt.{decimal}
-use Rattle.std.proofs.lemmas.Int.{ints}
 use Rattle.std.proofs.lemmas.Bool.{and_from, le-leb, ne_eqb, not_from_false}
 use Rattle.std.proofs.lemmas.List.{append_cancel_right}
 use Rattle.std.proofs.lemmas.List.Elements.{All-weaker, All-nil, All-cons, All-head, All-tail, All-from_get_or}
@@ -16,7 +15,7 @@ use Rattle.cable_definitions.specs.declared.site.CableType.{CableType}
 use Rattle.cable_definitions.specs.Site.{IsKind}
 use Rattle.cable_definitions.specs.Text.{number, words, line, IsWord, point_words}
 use Rattle.cable_definitions.specs.Numeral.{spelling, numeral}
-use Rattle.cable_text.specs.Number.{IsDigit, IsNumeral}
+use Rattle.cable_text.specs.Number.{IsDigit}
 use Rattle.cable_text.proofs.Reading.{IsNumeral-numeral}
 use Rattle.site_text.specs.Words.{parts, are_fields}
 use Rattle.site_text.specs.Plain.{IsPlainPoint, IsPlainType, type_words}

@@ -1,22 +1,21 @@
 -- What a reader of points finds in the bytes to come, where these are told.
-use Rattle.std.proofs.Common.{◌≡◌, ◌≢◌, ℕ, zero, suc, ◌+◌, ◌≤◌, ◌<◌, ◌⊎◌, inl, inr, List, [], ◌∷◌, ◌++◌, Option, Some, None, refl, sym, ap, ◌∙◌, subst, append_assoc, length, map, get_or, All, Any, AllPairs, codes, arith}
+use Rattle.std.proofs.Common.{◌≡◌, ◌≢◌, ℕ, zero, suc, ◌≤◌, ◌<◌, ◌⊎◌, inl, inr, List, [], ◌∷◌, ◌++◌, Option, Some, None, refl, sym, ap, ◌∙◌, subst, append_assoc, length, map, get_or, All, Any, arith}
 use Rattle.std.proofs.lemmas.List.{length-append, append-nil, get_or_at, get_or_append_left}
-use Rattle.std.proofs.lemmas.List.Elements.{All-head, All-tail, All-nil, All-cons, All-push, All-from_recursion}
+use Rattle.std.proofs.lemmas.List.Elements.{All-head, All-tail, All-nil, All-push, All-from_recursion}
 use Rattle.std.proofs.lemmas.List.Quantifiers.{all_pairs_push}
 use Rattle.std.specs.List.{concat, AllZip}
 use Rattle.cable_definitions.specs.declared.site.Point.{Point}
 use Rattle.cable_definitions.specs.declared.site.Kind.{Kind}
 use Rattle.cable_definitions.specs.declared.site.Kind.TheVariants.{Turbine, Substation, Bend}
 use Rattle.cable_definitions.specs.declared.place.Place.{Place}
-use Rattle.cable_definitions.specs.Plane.{SamePlace}
 use Rattle.cable_definitions.specs.Site.{IsKind}
 use Rattle.cable_definitions.specs.Naming.{IsName}
-use Rattle.cable_definitions.specs.Text.{line, words, number, point_line, point_words, HasNoNewline, IsWord}
+use Rattle.cable_definitions.specs.Text.{line, words, point_line, point_words, HasNoNewline}
 use Rattle.cable_text.specs.Stream.{Gives}
 use Rattle.site_text.specs.Plain.{Never, Shares, StartsWithLine, StartsWithPoints, IsPlainPoint, ArePlainPoints, points_text}
-use Rattle.site_text.proofs.Numbers.{small_count, small_coordinate}
-use Rattle.site_text.proofs.PointWords.{fields_are_words, some_words, point_parts}
-use Rattle.site_text.proofs.LineLaws.{SamePoint, same_point, end_words, end_words_are, no_end_words, Agrees, agree, line_front, words_plain, line_apart}
+use Rattle.site_text.proofs.Numbers.{small_coordinate}
+use Rattle.site_text.proofs.PointWords.{fields_are_words, point_parts}
+use Rattle.site_text.proofs.LineLaws.{SamePoint, same_point, end_words, end_words_are, agree, line_front, words_plain}
 use Rattle.site_text.proofs.PlainReading.{front_text, count_short, number_short, words_short}
 
 -- the bytes go on with further points, behind points that agree with these

@@ -1,12 +1,10 @@
 -- What the words of a line say, by its first word.
-use Rattle.std.proofs.Common.{◌≡◌, ◌≢◌, ℕ, ◌+◌, ◌-◌, ◌^◌, ◌≤◌, ◌<◌, ◌⊎◌, inl, inr, ℤ, pos, negsuc, ◌≤ℤ◌, List, [], ◌∷◌, length, sum, Bool, true, false, ◌==◌, cond, refl, sym, ap, ◌∙◌, subst, arith, All, Option, Some, None, codes, Bor}
-use Rattle.std.specs.Prelude.{if◌then◌else◌, ◌<ℤ◌, int_le, ◌&&◌}
-use Rattle.std.proofs.lemmas.Int.{ints}
+use Rattle.std.proofs.Common.{◌≡◌, ◌≢◌, ℕ, inl, inr, ℤ, pos, List, [], ◌∷◌, sum, true, false, ◌==◌, refl, sym, ap, ◌∙◌, subst, Option, Some, codes, Bor}
+use Rattle.std.specs.Prelude.{if◌then◌else◌}
 use Rattle.cable_definitions.specs.declared.site.Version.{Version}
 use Rattle.cable_definitions.specs.declared.site.Version.TheVariants.{One, Two}
 use Rattle.cable_definitions.specs.declared.site.Mode.{Mode}
-use Rattle.cable_definitions.specs.Text.{Reads}
-use Rattle.cable_definitions.specs.Items.{RawKind, ATurbine, ASubstation, ABend, RawRule, ACharge, AClosing, RawItem, AVersion, AMode, AType, APoint, AnObstacle, ACorner, APair, TheEnd, Misshapen, Stray as AStray, Unended, Missing, Overlong, NamesMode, HasWords}
+use Rattle.cable_definitions.specs.Items.{ATurbine, ASubstation, ABend, ACharge, AClosing, RawItem, AVersion, AMode, AType, APoint, AnObstacle, ACorner, APair, TheEnd, Misshapen, Stray as AStray, Unended, Missing, Overlong, NamesMode, HasWords}
 use Rattle.site_text.specs.declared.keyword.Keyword.{Keyword}
 use Rattle.site_text.specs.declared.keyword.Keyword.TheVariants.{Site, Mode as ModeKey, CableType as TypeKey, Substation as SubstationKey, Turbine as TurbineKey, Bend as BendKey, Obstacle as ObstacleKey, Corner as CornerKey, Charge as ChargeKey, Closed as ClosedKey, End as EndKey}
 use Rattle.site_text.specs.declared.item.ItemKind.TheVariants.{Turbine, Substation, Bend}

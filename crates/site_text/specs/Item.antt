@@ -1,5 +1,5 @@
 -- The items of lines as the reader holds them, and what they stand for.
-use Rattle.std.specs.Prelude.{◌≡◌, ℕ, ◌-◌, ◌^◌, ℤ, pos, negsuc, int_le, ◌&&◌, List, [], ◌∷◌, length, Bool, true, Option, Some, None, ◌⊎◌, if◌then◌else◌}
+use Rattle.std.specs.Prelude.{◌≡◌, ℕ, ◌-◌, ◌^◌, ℤ, pos, negsuc, int_le, ◌&&◌, List, length, true, Option, Some, None, ◌⊎◌, if◌then◌else◌}
 use Rattle.cable_definitions.specs.declared.site.Version.{Version}
 use Rattle.cable_definitions.specs.declared.site.Mode.{Mode}
 use Rattle.cable_definitions.specs.Text.{Reads, Whole}

@@ -13,3 +13,6 @@ mod write;
 pub use line::{Field, push_line};
 pub use plain::{PlainFault, read_plain_site};
 pub use write::{name_of, write_site};
+
+#[cfg(test)]
+mod tests;

@@ -1,4 +1,3 @@
-use Rattle.std.proofs.Common.{subst, [], ◌∷◌, ◌++◌, sym}
 use Rattle.cable_text.specs.Lines.{ahead}
 use Rattle.site_text.proofs.PlainReading.{other_line}
 use Rattle.site_text.proofs.plain.expect_line.Goals as goal

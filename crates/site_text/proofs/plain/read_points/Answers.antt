@@ -1,4 +1,4 @@
-use Rattle.std.proofs.Common.{Err, ap, sym, ◌∙◌, ◌++◌, ◌∷◌, [], map, ◌≡◌, ◌≢◌, cond, not, subst, arith, List, All, Any}
+use Rattle.std.proofs.Common.{Err, ap, sym, ◌∙◌, ◌++◌, ◌∷◌, [], map, ◌≡◌, cond, not, subst, arith, List, All, Any}
 use Rattle.std.specs.List.{concat}
 use Rattle.std.proofs.lemmas.Result.{err_from_is_err_and}
 use Rattle.cable_definitions.specs.Text.{point_line}

@@ -1,7 +1,5 @@
 use Rattle.std.proofs.Common.{Err, ap, sym, ◌≡◌, ◌∙◌, ◌++◌, ◌∷◌, []}
 use Rattle.std.proofs.lemmas.Result.{err_from_is_err_and}
-use Rattle.cable_definitions.specs.Text.{type_line}
-use Rattle.cable_definitions.specs.declared.site.Version.TheVariants.{One}
 use Rattle.cable_text.specs.Lines.{ahead}
 use Rattle.site_text.specs.declared.plain.PlainFault.TheVariants.{Refused}
 use Rattle.site_text.proofs.PlainReading.{no_type, never_less, type_is_line}

@@ -1,4 +1,3 @@
-use Rattle.std.proofs.Common.{sym, ◌∙◌}
 use Rattle.std.specs.Option.{option_copied}
 use Rattle.site_text.specs.Words.{rest_parts}
 use Rattle.site_text.proofs.PointWords.{substation_fields}

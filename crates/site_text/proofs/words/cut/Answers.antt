@@ -1,4 +1,4 @@
-use Rattle.std.proofs.Common.{arith, length}
+use Rattle.std.proofs.Common.{arith}
 use Rattle.std.proofs.lemmas.List.{take_rest}
 use Rattle.site_text.proofs.Splitting.{parts_at, parts_none}
 use Rattle.site_text.proofs.words.cut.Goals as goal

@@ -1,4 +1,4 @@
-use Rattle.std.proofs.Common.{ap, map, sym, take}
+use Rattle.std.proofs.Common.{ap, map, sym}
 use Rattle.std.specs.List.{concat}
 use Rattle.cable_definitions.specs.Text.{pair_line}
 use Rattle.site_text.proofs.Writers.{wrote_part, wrote_more, written_as}

@@ -1,4 +1,4 @@
-use Rattle.std.proofs.Common.{Result, Ok, take, map}
+use Rattle.std.proofs.Common.{Ok, take, map}
 use Rattle.std.specs.List.{concat}
 use Rattle.cable_text.specs.declared.stream.Failed.{Failed}
 use Rattle.cable_text.specs.Stream.{Writes}
