@@ -30,3 +30,5 @@ pub mod Weights
 pub mod Boxes
 -- what accepted items keep: bounds in boxes, and open leaves that cover all legal layouts
 pub mod Sound
+-- node 1 holds every layout, later items change no mark, and a split divides a box
+pub mod Growing

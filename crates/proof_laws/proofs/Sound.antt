@@ -85,8 +85,37 @@ pub record IsReplaced (old new : List Node) (i : ℕ) (node : Node) (bound : ℕ
   pub is : slice_get new i ≡ Some (worked node bound status)
   pub others : (j : ℕ) (x : Node) → j ≢ i → slice_get old j ≡ Some x → slice_get new j ≡ Some x
 
+-- the two nodes that a split makes
+abbrev pub children : ℕ → ℕ → ℕ → List Node
+children v bound a = child v bound a Used ∷ child v bound a Unused ∷ []
+
+-- the nodes after a split of node i + 1
+abbrev pub split_nodes : List Node → ℕ → Node → ℕ → ℕ → List Node
+split_nodes old i node bound a = slice_set old i (worked node bound WasSplit) ++ children (suc i) bound a
+
+-- a node is replaced in the list of nodes, ..
+pub replaced-set : (old : List Node) (i : ℕ) (node : Node) (bound : ℕ) (status : Status) → slice_get old i ≡ Some node
+    → IsReplaced old (slice_set old i (worked node bound status)) i node bound status
+replaced-set old i node bound status e = record {
+  was = e;
+  is = set_here old i node (worked node bound status) e;
+  others = λ j x n h. set_other old i j (worked node bound status) n ∙ h;
+}
+
+-- .. also where others are appended
+pub replaced-split : (old : List Node) (i : ℕ) (node : Node) (bound : ℕ) (status : Status) (more : List Node) → slice_get old i ≡ Some node
+    → IsReplaced old (slice_set old i (worked node bound status) ++ more) i node bound status
+replaced-split old i node bound status more e =
+    let r = replaced-set old i node bound status e in
+    let mid = slice_set old i (worked node bound status) in
+    record {
+      was = e;
+      is = append_left mid more i (worked node bound status) r.is;
+      others = λ j x n h. append_left mid more j x (r.others j x n h);
+    }
+
 -- the old nodes are still made
-replaced-still : (old new : List Node) (i : ℕ) (node : Node) (bound : ℕ) (status : Status) → IsReplaced old new i node bound status → AreStillMade old new
+pub replaced-still : (old new : List Node) (i : ℕ) (node : Node) (bound : ℕ) (status : Status) → IsReplaced old new i node bound status → AreStillMade old new
 replaced-still old new i node bound status r j x e = elim (eqb_tells j i) [
   | inl t ↦
       let f : Some node ≡ Some x = sym r.was ∙ sym (ap (slice_get old) t.1) ∙ e in
@@ -163,16 +192,31 @@ sound-replaced s arcs old i node bound status sound e holds leaf = record {
     new = slice_set old i (worked node bound status)
 
     r : IsReplaced old (slice_set old i (worked node bound status)) i node bound status
-    r = record { was = e; is = set_here old i node (worked node bound status) e; others = λ j x n h. set_other old i j (worked node bound status) n ∙ h }
+    r = replaced-set old i node bound status e
 
--- the two nodes that a split makes
-abbrev pub children : ℕ → ℕ → ℕ → List Node
-children v bound a = child v bound a Used ∷ child v bound a Unused ∷ []
+-- a split makes children
+pub split-child : (arcs : List Arc) (old : List Node) (i a : ℕ) (node : Node) (bound : ℕ) → slice_get old i ≡ Some node → slice_get (marks_of arcs old (suc i)) a ≡ Some Free
+    → (k : ℕ) (mark : Mark) → slice_get (children (suc i) bound a) k ≡ Some (child (suc i) bound a mark)
+    → IsChild old (split_nodes old i node bound a) (length (slice_set old i (worked node bound WasSplit)) + k) (suc i) a mark
+split-child arcs old i a node bound e free k mark h =
+    let mid = slice_set old i (worked node bound WasSplit) in
+    let l = slice_get_within old i node e in
+    let m = slice_get_within mid i (worked node bound WasSplit) (set_here old i node (worked node bound WasSplit) e) in
+    record {
+      node = child (suc i) bound a mark;
+      made = append_right mid (children (suc i) bound a) k ∙ h;
+      parent = refl;
+      arc_is = refl;
+      mark_is = refl;
+      after = omega arith;
+      within = omega arith;
+      free = (marks_of-at arcs old (suc i) a Free free).1;
+    }
 
 -- a node is split at an arc that is free in it: both children have the new bound, and each layout of its box is in the box of one of them
 sound-split : (s : Site) (arcs : List Arc) (old : List Node) (i a : ℕ) (node : Node) (bound : ℕ) → AreSound s arcs old → slice_get old i ≡ Some node
     → IsBoundIn s arcs old (suc i) bound → slice_get (marks_of arcs old (suc i)) a ≡ Some Free
-    → AreSound s arcs (slice_set old i (worked node bound WasSplit) ++ children (suc i) bound a)
+    → AreSound s arcs (split_nodes old i node bound a)
 sound-split s arcs old i a node bound sound e holds free = record {
   parents = λ j x h. (each_node j x h).0;
   bounds = λ j x h. (each_node j x h).1;
@@ -185,18 +229,11 @@ sound-split s arcs old i a node bound sound e holds free = record {
     new : List Node
     new = mid ++ children (suc i) bound a
 
-    r : IsReplaced old (slice_set old i (worked node bound WasSplit) ++ children (suc i) bound a) i node bound WasSplit
-    r = record {
-      was = e;
-      is = append_left mid (children (suc i) bound a) i (worked node bound WasSplit) (set_here old i node (worked node bound WasSplit) e);
-      others = λ j x n h. append_left mid (children (suc i) bound a) j x (set_other old i j (worked node bound WasSplit) n ∙ h);
-    }
+    r : IsReplaced old (split_nodes old i node bound a) i node bound WasSplit
+    r = replaced-split old i node bound WasSplit (children (suc i) bound a) e
 
-    still : AreStillMade old (slice_set old i (worked node bound WasSplit) ++ children (suc i) bound a)
-    still = replaced-still old (slice_set old i (worked node bound WasSplit) ++ children (suc i) bound a) i node bound WasSplit r
-
-    in_old : i < length old
-    in_old = slice_get_within old i node e
+    still : AreStillMade old (split_nodes old i node bound a)
+    still = replaced-still old (split_nodes old i node bound a) i node bound WasSplit r
 
     in_mid : i < length (slice_set old i (worked node bound WasSplit))
     in_mid = slice_get_within mid i (worked node bound WasSplit) (set_here old i node (worked node bound WasSplit) e)
@@ -204,57 +241,44 @@ sound-split s arcs old i a node bound sound e holds free = record {
     arc : (x : Arc) × (slice_get arcs a ≡ Some x)
     arc = some_at arcs a (marks_of-at arcs old (suc i) a Free free).0
 
-    is_child : (k : ℕ) (mark : Mark) → slice_get (children (suc i) bound a) k ≡ Some (child (suc i) bound a mark)
-        → IsChild old (slice_set old i (worked node bound WasSplit) ++ children (suc i) bound a) (length (slice_set old i (worked node bound WasSplit)) + k) (suc i) a mark
-    is_child k mark h = record {
-      node = child (suc i) bound a mark;
-      made = append_right mid (children (suc i) bound a) k ∙ h;
-      parent = refl;
-      arc_is = refl;
-      mark_is = refl;
-      after = let l = in_mid in omega arith;
-      within = let l = in_old in omega arith;
-      free = (marks_of-at arcs old (suc i) a Free free).1;
-    }
-
     each_child : (k : ℕ) (mark : Mark) → slice_get (children (suc i) bound a) k ≡ Some (child (suc i) bound a mark) → (j : ℕ) (x : Node) → j ≡ length (slice_set old i (worked node bound WasSplit)) + k
-        → child (suc i) bound a mark ≡ x → (x.parent ≤ j) × IsBoundIn s arcs (slice_set old i (worked node bound WasSplit) ++ children (suc i) bound a) (suc j) x.bound
+        → child (suc i) bound a mark ≡ x → (x.parent ≤ j) × IsBoundIn s arcs (split_nodes old i node bound a) (suc j) x.bound
     each_child k mark h j x place same =
         let l = in_mid in
         let parent : suc i ≡ x.parent = ap (λ (n : Node). n.parent) same in
         let is : bound ≡ x.bound = ap (λ (n : Node). n.bound) same in (
           omega arith,
           λ cables g b.
-              let c = holds cables g (box-of_parent arcs old new (length mid + k) (suc i) a mark cables sound.parents still (is_child k mark h)
+              let c = holds cables g (box-of_parent arcs old new (length mid + k) (suc i) a mark cables sound.parents still (split-child arcs old i a node bound e free k mark h)
               (subst (λ (k : ℕ). IsInBox arcs (marks_of arcs new (suc k)) cables) place b)) in
               omega arith,
         )
 
     by_child : (k : ℕ) (j : ℕ) (x : Node) → j ≡ length (slice_set old i (worked node bound WasSplit)) + k → slice_get (children (suc i) bound a) k ≡ Some x
-        → (x.parent ≤ j) × IsBoundIn s arcs (slice_set old i (worked node bound WasSplit) ++ children (suc i) bound a) (suc j) x.bound
+        → (x.parent ≤ j) × IsBoundIn s arcs (split_nodes old i node bound a) (suc j) x.bound
     by_child zero j x place h = each_child 0 Used refl j x place (cc)
     by_child (suc zero) j x place h = each_child 1 Unused refl j x place (cc)
     by_child (suc (suc k)) j x place h = absurd (cc)
 
-    each_node : (j : ℕ) (x : Node) → slice_get (slice_set old i (worked node bound WasSplit) ++ children (suc i) bound a) j ≡ Some x
-        → (x.parent ≤ j) × IsBoundIn s arcs (slice_set old i (worked node bound WasSplit) ++ children (suc i) bound a) (suc j) x.bound
+    each_node : (j : ℕ) (x : Node) → slice_get (split_nodes old i node bound a) j ≡ Some x
+        → (x.parent ≤ j) × IsBoundIn s arcs (split_nodes old i node bound a) (suc j) x.bound
     each_node j x h = elim (append_either mid (children (suc i) bound a) j x h) [
       | inl f ↦ replaced-node s arcs old new i node bound WasSplit sound r holds j x (set_either old i (worked node bound WasSplit) node e j x f)
       | inr c ↦ by_child c.0 j x c.1 c.2
     ]
 
     covered : (cables : List Cable) → IsInBox arcs (marks_of arcs old (suc i)) cables → (k : ℕ) (mark : Mark) → slice_get (children (suc i) bound a) k ≡ Some (child (suc i) bound a mark)
-        → ((x : Arc) → slice_get arcs a ≡ Some x → IsKept mark (has_arc cables x)) → IsCovered arcs (slice_set old i (worked node bound WasSplit) ++ children (suc i) bound a) cables
+        → ((x : Arc) → slice_get arcs a ≡ Some x → IsKept mark (has_arc cables x)) → IsCovered arcs (split_nodes old i node bound a) cables
     covered cables b k mark h keeps = record {
       place = length mid + k;
       node = child (suc i) bound a mark;
       made = append_right mid (children (suc i) bound a) k ∙ h;
       open_leaf = refl;
-      in_box = box-of_child arcs old new (length mid + k) (suc i) a mark cables sound.parents still (is_child k mark h) keeps b;
+      in_box = box-of_child arcs old new (length mid + k) (suc i) a mark cables sound.parents still (split-child arcs old i a node bound e free k mark h) keeps b;
     }
 
     by_use : (cables : List Cable) → IsInBox arcs (marks_of arcs old (suc i)) cables → (b : Bool) → has_arc cables arc.0 ≡ b
-        → IsCovered arcs (slice_set old i (worked node bound WasSplit) ++ children (suc i) bound a) cables
+        → IsCovered arcs (split_nodes old i node bound a) cables
     by_use cables b true t = covered cables b 0 Used refl (λ x h. let f : Some arc.0 ≡ Some x = sym arc.1 ∙ h in let same : arc.0 ≡ x = cc in sym (ap (has_arc cables) same) ∙ t)
     by_use cables b false t =
         covered cables b 1 Unused refl

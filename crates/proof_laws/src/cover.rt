@@ -1,16 +1,47 @@
 //! Accepted items.
 
-ghost use Rattle.std.specs.Prelude.{◌≡◌, ◌≤◌, ◌<◌, ℕ, List, IsTrue, Some};
+ghost use Rattle.std.specs.Prelude.{◌≡◌, ◌≤◌, ◌⊎◌, ◌+◌, ℕ, ℤ, List, length, slice_set, IsTrue, Some};
 ghost use Rattle.cable_definitions.specs.declared.cable.Arc.{Arc};
 ghost use Rattle.cable_definitions.specs.declared.cable.Cable.{Cable};
+ghost use Rattle.cable_definitions.specs.declared.row.Mark.TheVariants.{Used, Unused};
+ghost use Rattle.cable_definitions.specs.declared.row.Act.TheVariants.{Split};
 ghost use Rattle.cable_definitions.specs.declared.claim.Claim.{Claim};
 ghost use Rattle.cable_definitions.specs.declared.claim.Claim.TheVariants.{Optimal};
 ghost use Rattle.cable_definitions.specs.Site.{Site, IsValid};
 ghost use Rattle.cable_definitions.specs.Arcs.{AreArcs};
 ghost use Rattle.cable_definitions.specs.Layout.{IsLegal, cost, Least, HasNone};
 ghost use Rattle.cable_definitions.specs.Choice.{IsInBox};
-ghost use Rattle.cable_definitions.specs.Tree.{Node, Item, Kept, node_of, marks_of, IsAccepted, is_open_leaf, IsLeastBound, AllDead, Agrees, Says};
+ghost use Rattle.cable_definitions.specs.Tree.{Node, Item, Kept, node_of, marks_of, IsWorked, Leads, IsAccepted, is_open_leaf, IsLeastBound, AllDead, Agrees, Says};
 ghost use Rattle.cable_definitions.specs.Document.{Yes};
+
+/// Node 1's box holds every list of cables, whatever items are accepted.
+pub fn first_box_holds_all()
+    ensures { (s : Site) (arcs : List Arc) (n : ℕ) (items : List Item) (kept : Kept) → IsAccepted s arcs n items kept
+        → (cables : List Cable) → IsInBox arcs (marks_of arcs kept.nodes 1) cables }
+{}
+
+/// Later items change no mark of a node that was made before them.
+pub fn later_items_keep_marks()
+    ensures { (s : Site) (arcs : List Arc) (n : ℕ) (items more : List Item) (old new : Kept) → IsValid s → AreArcs s arcs
+        → IsAccepted s arcs n items old → Leads s arcs n old more new
+        → (v : ℕ) → v ≤ length old.nodes → marks_of arcs new.nodes v ≡ marks_of arcs old.nodes v }
+{}
+
+/// A split makes two nodes whose marks are those of the split node, but at the arc of the split, which is used in the first and unused in the
+/// second; a layout in the split node's box lies in the box of exactly one of them.
+pub fn splits_divide_boxes()
+    ensures used { (s : Site) (arcs : List Arc) (n : ℕ) (items : List Item) (old new : Kept) (v a : ℕ) (weights : List (ℕ × ℤ)) → IsValid s
+        → AreArcs s arcs → IsAccepted s arcs n items old → IsWorked s arcs n old v weights (Split a) new
+        → marks_of arcs new.nodes (length old.nodes + 1) ≡ slice_set (marks_of arcs old.nodes v) a Used }
+    ensures unused { (s : Site) (arcs : List Arc) (n : ℕ) (items : List Item) (old new : Kept) (v a : ℕ) (weights : List (ℕ × ℤ)) → IsValid s
+        → AreArcs s arcs → IsAccepted s arcs n items old → IsWorked s arcs n old v weights (Split a) new
+        → marks_of arcs new.nodes (length old.nodes + 2) ≡ slice_set (marks_of arcs old.nodes v) a Unused }
+    ensures one_of { (s : Site) (arcs : List Arc) (n : ℕ) (items : List Item) (old new : Kept) (v a : ℕ) (weights : List (ℕ × ℤ)) (cables : List Cable)
+        → IsValid s → AreArcs s arcs → IsAccepted s arcs n items old → IsWorked s arcs n old v weights (Split a) new
+        → IsInBox arcs (marks_of arcs old.nodes v) cables
+        → let used = IsInBox arcs (marks_of arcs new.nodes (length old.nodes + 1)) cables
+        in let unused = IsInBox arcs (marks_of arcs new.nodes (length old.nodes + 2)) cables in (used × (¬ unused)) ⊎ ((¬ used) × unused) }
+{}
 
 /// In the box of each node that accepted items make, every legal layout costs at least the node's bound.
 pub fn bounds_hold_in_boxes()
