@@ -60,6 +60,10 @@ fn three_turbines_that_join_or_do_not(rt: HostRuntime) -> Result<(), Fail> {
         builder.add_point(b"C", 300, 1400, TURBINE)?;
         let site = builder.build()?;
         assert!(&rt; planned(&rt, alloc, &site)? == Some((cost, 3)));
+        assert!(&rt; site.nearest() == Some(1500));
+        assert!(&rt; site.points().len() == 4);
+        assert!(&rt; site.cheapest(1, 0, 400) == Some((0, 1000)));
+        assert!(&rt; site.cheapest(1, 0, 401).is_none());
     }
     Ok(())
 }
