@@ -1,5 +1,7 @@
 use crate::run::run;
 use cable_text::{MemorySink, MemorySource};
+use layout_meaning::{Cable, Rule, Verdict, judge_cables};
+use site_model::{BuildFault, Mode, RawKind, Site, SiteBuilder, Version};
 use std::alloc::{AllocError, Global};
 
 /// What a run printed and noted, and its status.
@@ -153,12 +155,13 @@ fn refuses_what_is_no_site_so_far(rt: HostRuntime) -> Result<(), AllocError> {
 }
 
 /// Words that are no command.
-const NO_COMMAND: [&[&str]; 10] = [
+const NO_COMMAND: [&[&str]; 11] = [
     &[],
     &["plan"],
     &["plan", "0"],
     &["plan", "8190"],
     &["plan", "50001"],
+    &["plan", "05"],
     &["plan", "08191"],
     &["Plan", "8191"],
     &["plan", "8191", "1"],
@@ -205,4 +208,38 @@ fn a_stream_that_fails_ends_the_run(rt: HostRuntime) -> Result<(), AllocError> {
         assert!(rt; ran.out.len() < whole.out.len(), "push {push}");
     }
     Ok(())
+}
+
+/// Two substations in the south, and a turbine north of each, with the pairs closed that run straight
+/// south.
+fn square(alloc: Global) -> Result<Site, BuildFault> {
+    let Ok(mut site) = SiteBuilder::new(alloc, Version::One, Mode::Tree) else {
+        return Err(BuildFault::Memory);
+    };
+    site.add_type(400, 1, None)?;
+    site.add_point(b"S1", 0, 0, RawKind::Substation(4, 10000))?;
+    site.add_point(b"S2", 1000, 0, RawKind::Substation(4, 10000))?;
+    site.add_point(b"A", 0, 1000, RawKind::Turbine(100))?;
+    site.add_point(b"B", 1000, 1000, RawKind::Turbine(100))?;
+    site.add_pair(b"A", b"S1", None)?;
+    site.add_pair(b"B", b"S2", None)?;
+    site.build()
+}
+
+/// A cable of the one type.
+fn cable(from: u32, to: u32) -> Cable {
+    Cable { from, to, grade: 0 }
+}
+
+#[test]
+fn crossing_cables_are_refused(rt: HostRuntime) {
+    let site = square(rt.alloc()).expect(&rt, "the square is a site");
+    let crossing = judge_cables(&site, &[cable(2, 1), cable(3, 0)]);
+    assert!(rt; crossing == Verdict::Broken(Rule::Clash, 2, 3));
+    let closed = judge_cables(&site, &[cable(2, 0), cable(3, 2)]);
+    assert!(rt; closed == Verdict::Broken(Rule::Candidate, 2, 0));
+    let joined = judge_cables(&site, &[cable(2, 3), cable(3, 0)]);
+    assert!(rt; joined == Verdict::Legal(2415));
+    let none = judge_cables(&site, &[]);
+    assert!(rt; none == Verdict::Broken(Rule::Unjoined, 2, 2));
 }
