@@ -32,3 +32,5 @@ pub mod Boxes
 pub mod Sound
 -- node 1 holds every layout, later items change no mark, and a split divides a box
 pub mod Growing
+-- a row that counts no arc as anything can't be met where its right side is above 0
+pub mod NoArc
