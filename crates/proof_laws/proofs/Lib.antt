@@ -34,3 +34,5 @@ pub mod Sound
 pub mod Growing
 -- a row that counts no arc as anything can't be met where its right side is above 0
 pub mod NoArc
+-- works and what is left of them
+pub mod WorkCounts

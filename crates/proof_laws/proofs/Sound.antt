@@ -50,7 +50,7 @@ pub record IsSound (s : Site) (arcs : List Arc) (kept : Kept) : Type 0 where
   pub nodes : AreSound s arcs kept.nodes
 
 -- it holds before the first item
-sound-nothing : (s : Site) (arcs : List Arc) → IsSound s arcs nothing_kept
+pub sound-nothing : (s : Site) (arcs : List Arc) → IsSound s arcs nothing_kept
 sound-nothing s arcs = record {
   well_formed = λ k d l. absurd (omega arith);
   nodes = record {

@@ -1,2 +1,4 @@
 -- nodes whose arcs are all decided, and the rows that tell whether their used arcs are a layout
 pub mod Decided
+-- how many works the unworked nodes of a tree can still take
+pub mod WorksLeft
