@@ -11,3 +11,5 @@ pub mod PlainText
 pub mod Saying
 pub mod Held
 pub mod Lines
+pub mod DraftText
+pub mod DraftSteps
