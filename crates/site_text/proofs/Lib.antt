@@ -13,3 +13,4 @@ pub mod Held
 pub mod Lines
 pub mod DraftText
 pub mod DraftSteps
+pub mod SiteReading

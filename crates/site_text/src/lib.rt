@@ -4,12 +4,14 @@
 mod decode;
 mod item;
 mod keyword;
+mod law;
 mod line;
 mod plain;
 mod point;
 mod words;
 mod write;
 
+pub use law::good_items_are_a_site;
 pub use line::{Field, push_line};
 pub use plain::{PlainFault, read_plain_site};
 pub use write::{name_of, write_site};

@@ -1,7 +1,6 @@
 use Rattle.std.proofs.Common.{arith}
 use Rattle.std.proofs.lemmas.List.{take_rest}
 use Rattle.site_text.proofs.Splitting.{parts_at, parts_none}
-use Rattle.site_text.proofs.DraftSteps.{Tidy}
 use Rattle.site_text.proofs.words.cut.Goals as goal
 
 pub returns-then-byte-eq32 : goal.returns-then-byte-eq32
