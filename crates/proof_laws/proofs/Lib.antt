@@ -36,3 +36,5 @@ pub mod Growing
 pub mod NoArc
 -- works and what is left of them
 pub mod WorkCounts
+-- weights have one value, and weights on the rows of turbines can have at least the sum of the least costs out of them
+pub mod NearestValue

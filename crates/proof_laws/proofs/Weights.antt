@@ -56,7 +56,7 @@ weighted_two f g u l rows (w ∷ weights) =
         (omega arith)
 
 -- a sum of weighted sums is the weighted sum of the sums
-weighted-exchange : {X : Type 0} → (F : X → Row → ℤ) (xs : List X) (rows : List Row) (weights : List (ℕ × ℤ))
+pub weighted-exchange : {X : Type 0} → (F : X → Row → ℤ) (xs : List X) (rows : List Row) (weights : List (ℕ × ℤ))
     → sum_int (λ x. sum_weighted (F x) rows weights) xs ≡ sum_weighted (λ row. sum_int (λ x. F x row) xs) rows weights
 weighted-exchange {X} F xs rows weights =
     sum_int-exchange (λ (x : X) (w : ℕ × ℤ). w.1 *ℤ at_row (F x) (slice_get rows w.0)) xs weights

@@ -2,3 +2,5 @@
 pub mod Decided
 -- how many works the unworked nodes of a tree can still take
 pub mod WorksLeft
+-- weights on the rows of the cables out of turbines
+pub mod OutWeights
