@@ -38,3 +38,5 @@ pub mod NoArc
 pub mod WorkCounts
 -- weights have one value, and weights on the rows of turbines can have at least the sum of the least costs out of them
 pub mod NearestValue
+-- bounds never fall
+pub mod Rising

@@ -1,18 +1,21 @@
 //! Accepted items.
 
-ghost use Rattle.std.specs.Prelude.{◌≡◌, ◌≤◌, ◌⊎◌, ◌+◌, ℕ, ℤ, List, length, slice_set, IsTrue, Some};
+ghost use Rattle.std.specs.Prelude.{◌≡◌, ◌≤◌, ◌⊎◌, ◌+◌, ◌*◌, ◌^◌, ℕ, ℤ, pos, ◌≤ℤ◌, List, length, slice_set, IsTrue, Some};
 ghost use Rattle.cable_definitions.specs.declared.cable.Arc.{Arc};
 ghost use Rattle.cable_definitions.specs.declared.cable.Cable.{Cable};
 ghost use Rattle.cable_definitions.specs.declared.row.Mark.TheVariants.{Used, Unused};
+ghost use Rattle.cable_definitions.specs.declared.row.Act.{Act};
 ghost use Rattle.cable_definitions.specs.declared.row.Act.TheVariants.{Split};
 ghost use Rattle.cable_definitions.specs.declared.claim.Claim.{Claim};
 ghost use Rattle.cable_definitions.specs.declared.claim.Claim.TheVariants.{Optimal};
 ghost use Rattle.cable_definitions.specs.Site.{Site, IsValid};
 ghost use Rattle.cable_definitions.specs.Arcs.{AreArcs};
+ghost use Rattle.cable_definitions.specs.Budget.{IsNearest};
 ghost use Rattle.cable_definitions.specs.Layout.{IsLegal, cost, Least, HasNone};
 ghost use Rattle.cable_definitions.specs.Choice.{IsInBox};
 ghost use Rattle.cable_definitions.specs.Tree.{Node, Item, Kept, node_of, marks_of, IsWorked, Leads, IsAccepted, is_open_leaf, IsLeastBound, AllDead, Agrees, Says};
 ghost use Rattle.cable_definitions.specs.Document.{Yes};
+ghost use Rattle.proof_laws.specs.OutWeights.{AreOutWeights};
 
 /// Node 1's box holds every list of cables, whatever items are accepted.
 pub fn first_box_holds_all()
@@ -84,4 +87,25 @@ pub fn documents_are_true()
 pub fn optimal_documents_are_true()
     ensures reached { (bytes : List ℕ) (s : Site) (best : ℕ) → Yes bytes s (Optimal best) → (cables : List Cable) × IsLegal s cables × (cost s cables ≡ best) }
     ensures least { (bytes : List ℕ) (s : Site) (best : ℕ) → Yes bytes s (Optimal best) → Least s best }
+{}
+
+/// Where each made node's bound is at least some number, so is that of each node after later items.
+pub fn bounds_never_fall()
+    ensures { (s : Site) (arcs : List Arc) (n m : ℕ) (items more : List Item) (old new : Kept) → IsValid s → AreArcs s arcs
+        → IsAccepted s arcs n items old → Leads s arcs n old more new
+        → ((v : ℕ) (node : Node) → node_of old.nodes v ≡ Some node → m ≤ node.bound)
+        → (v : ℕ) (node : Node) → node_of new.nodes v ≡ Some node → m ≤ node.bound }
+{}
+
+/// Where the first work's value, over 2^20, reaches a number that every legal layout costs at least, no bound after that work is below the number;
+/// so the weights of the nearest arcs keep all bounds at the sum of the least costs out of the turbines or above.
+pub fn first_values_hold()
+    ensures reached { (s : Site) (arcs : List Arc) (n m : ℕ) (items more : List Item) (old mid new : Kept) (v : ℕ) (weights : List (ℕ × ℤ)) (act : Act)
+        → IsValid s → AreArcs s arcs → Least s m → IsAccepted s arcs n items old → old.works ≡ 0
+        → (work : IsWorked s arcs n old v weights act mid) → pos (2 ^ 20 * m) ≤ℤ work.value → Leads s arcs n mid more new
+        → (u : ℕ) (node : Node) → node_of new.nodes u ≡ Some node → m ≤ node.bound }
+    ensures nearest { (s : Site) (arcs : List Arc) (n nearest : ℕ) (items more : List Item) (old mid new : Kept) (v : ℕ) (weights : List (ℕ × ℤ)) (act : Act)
+        → IsValid s → AreArcs s arcs → IsNearest s nearest → IsAccepted s arcs n items old → old.works ≡ 0
+        → IsWorked s arcs n old v weights act mid → AreOutWeights s arcs old.rows (marks_of arcs old.nodes v) weights → Leads s arcs n mid more new
+        → (u : ℕ) (node : Node) → node_of new.nodes u ≡ Some node → nearest ≤ node.bound }
 {}
