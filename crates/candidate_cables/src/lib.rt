@@ -134,3 +134,6 @@ impl Arcs {
         are_incompatible(site, self.get(a), self.get(b))
     }
 }
+
+#[cfg(test)]
+mod tests;
