@@ -40,3 +40,5 @@ pub mod WorkCounts
 pub mod NearestValue
 -- bounds never fall
 pub mod Rising
+-- one weight on the row of each turbine
+pub mod TurbineWeights
