@@ -27,7 +27,7 @@ none_before_line Verdict h = absurd (omega (arith, h))
 
 -- the input ends after the site: the line of the budget is missing
 pub missing_budget : IsRefusedAfter fork [] AtBudget [] 9 9 Line
-missing_budget = record { read_lines = []; reader = reader_at AtBudget; left = []; reads = (refl, refl); piece = NoLine; rest = []; next = refl; first = inl (record { holds = refl; least = λ c h. absurd (none_before_line c h) }); line_is = refl }
+missing_budget = record { read_lines = []; reader = reader_at AtBudget; left = []; reads = (refl, refl); piece = NoLine; rest = []; next = (refl, refl); first = inl (record { holds = refl; least = λ c h. absurd (none_before_line c h) }); line_is = refl }
 
 -- the line of a budget of 0 is of the form, and its number is out of its range
 abbrev zero_budget : List ℕ

@@ -1,5 +1,5 @@
 -- From how a plan ends to what the headline says.
-use Rattle.std.proofs.Common.{◌≡◌, ◌≢◌, ℕ, ◌+◌, ◌^◌, ◌<◌, ◌≤◌, ◌⊎◌, List, [], ◌∷◌, refl, sym, ◌∙◌, subst, arith, ⊎_elim, inl, inr}
+use Rattle.std.proofs.Common.{◌≡◌, ◌≢◌, ℕ, ◌≤◌, List, [], ◌∷◌, refl, sym, ◌∙◌, subst, arith, ⊎_elim}
 use Rattle.std.specs.Prelude.{codes, Some}
 use Rattle.std.specs.Fmt.{decimal}
 use Rattle.std.proofs.lemmas.Fmt.{decimal_injective}
@@ -10,7 +10,7 @@ use Rattle.cable_definitions.specs.declared.command.Command.TheVariants.{Plan, C
 use Rattle.cable_definitions.specs.Built.{IsBuiltWords, IsBuiltCommand}
 use Rattle.cable_program.specs.declared.ending.Ending.{Ending}
 use Rattle.cable_program.specs.declared.ending.Ending.TheVariants.{Done, Usage, SiteRefused, Gap as EndsInGap, Partial as EndsOpen, Infeasible as EndsInfeasible, DocumentRefused, ReadFault, WriteFault, Memory}
-use Rattle.cable_program.specs.Ends.{Stream, Faulted, Got, IsNoCommand, IsPlan, IsAccepted, IsPlanOf, PlanEnds, CommandEnds, EndsWith}
+use Rattle.cable_program.specs.Ends.{Stream, Faulted, Got, IsPlan, IsAccepted, IsPlanOf, PlanEnds, CommandEnds, EndsWith}
 
 -- what the headline promises of an ending
 abbrev pub Promise : ℕ → Stream → Stream → Ending → Type 0

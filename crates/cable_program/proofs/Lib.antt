@@ -1,3 +1,4 @@
 pub mod Unread
 pub mod Headlines
 pub mod Documents
+pub mod Ended

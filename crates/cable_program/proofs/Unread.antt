@@ -1,5 +1,5 @@
 -- Words that no number in range spells.
-use Rattle.std.proofs.Common.{◌≡◌, ℕ, ◌+◌, ◌^◌, ◌<◌, ◌≤◌, ◌⊎◌, ◌≢◌, List, [], ◌∷◌, refl, sym, ◌∙◌, ap, arith, ⊎_elim}
+use Rattle.std.proofs.Common.{◌≡◌, ℕ, ◌≤◌, ◌≢◌, List, [], ◌∷◌, refl, sym, ◌∙◌, arith, ⊎_elim}
 use Rattle.std.specs.Prelude.{codes, ℤ, pos}
 use Rattle.std.specs.Fmt.{decimal}
 use Rattle.std.proofs.lemmas.Int.{ints}

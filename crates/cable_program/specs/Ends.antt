@@ -1,7 +1,7 @@
 -- How a command may end, and what it leaves of its streams.
 use Rattle.std.specs.Prelude.{◌≡◌, ℕ, ◌⊎◌, List, Option, Some}
 use Rattle.cable_definitions.specs.declared.claim.Claim.{Claim}
-use Rattle.cable_definitions.specs.declared.claim.Claim.TheVariants.{Optimal, Gap, Partial, Infeasible}
+use Rattle.cable_definitions.specs.declared.claim.Claim.TheVariants.{Optimal, Infeasible}
 use Rattle.cable_definitions.specs.declared.command.Command.{Command}
 use Rattle.cable_definitions.specs.declared.command.Command.TheVariants.{Plan}
 use Rattle.cable_definitions.specs.declared.site.SiteCode.TheVariants.{Form}
@@ -10,7 +10,7 @@ use Rattle.cable_definitions.specs.Document.{IsSiteText}
 use Rattle.cable_definitions.specs.Built.{IsBuiltSite, IsBuiltWords}
 use Rattle.cable_definitions.specs.Plan.{IsPlanned}
 use Rattle.cable_definitions.specs.Answers.{usage_note, site_note}
-use Rattle.cable_text.specs.Stream.{Rose, Appends, AppendsPrefix}
+use Rattle.cable_text.specs.Stream.{Rose, IsAtEnd, Appends, AppendsPrefix}
 use Rattle.cable_program.specs.declared.ending.Ending.{Ending}
 use Rattle.cable_program.specs.declared.ending.Ending.TheVariants.{Done, Usage, SiteRefused, Gap as EndsInGap, Partial as EndsOpen, Infeasible as EndsInfeasible, DocumentRefused, ReadFault, WriteFault, Memory}
 
@@ -63,12 +63,13 @@ abbrev pub IsAccepted : List ℕ → Type 0
 IsAccepted bytes = (s : Site) × IsSiteText bytes s × IsBuiltSite s
 
 -- What was read is a valid site that is planned so far, and this text is a plan of it with this claim. Where the input tells its bytes, they are
--- the lines of that site and nothing else.
+-- the lines of that site and nothing else, and the input was read to its end.
 pub record IsPlanOf (n : ℕ) (input : Stream) (printed : List ℕ) (claim : Claim) : Type 0 where
   pub site : Site
   pub valid : IsValid site
   pub built : IsBuiltSite site
   pub read : (bytes : List ℕ) → input.before ≡ Some bytes → IsSiteText bytes site
+  pub whole : IsAtEnd input.after
   pub planned : IsPlanned site n printed claim
 
 -- a plan was printed with this claim

@@ -1,5 +1,5 @@
 -- What the steps of a plan give to one another.
-use Rattle.std.specs.Prelude.{◌≡◌, ℕ, ◌<◌, ◌⊎◌, List, AllPairs, Some, Result, Ok, Err}
+use Rattle.std.specs.Prelude.{◌≡◌, ℕ, ◌<◌, List, AllPairs, Some, Result, Ok, Err}
 use Rattle.cable_definitions.specs.declared.cable.Cable.{Cable}
 use Rattle.cable_definitions.specs.declared.claim.Claim.{Claim}
 use Rattle.cable_definitions.specs.declared.claim.Claim.TheVariants.{Optimal, Gap, Partial, Infeasible}
@@ -9,13 +9,15 @@ use Rattle.cable_definitions.specs.Built.{IsBuiltSite}
 use Rattle.cable_definitions.specs.Tree.{LayoutAgrees, Says}
 use Rattle.cable_program.specs.declared.plan.PlanFault.{PlanFault}
 use Rattle.cable_program.specs.declared.plan.PlanFault.TheVariants.{Refused, Read, Write, Memory}
+use Rattle.cable_text.specs.Stream.{IsAtEnd}
 use Rattle.cable_program.specs.Ends.{Stream, Faulted, Untouched, IsAccepted, PrintsPlan, PrintsPart}
 
--- the site was read that is planned so far; where the input tells its bytes they are its lines
+-- the site was read that is planned so far; where the input tells its bytes they are its lines, and none are left
 pub record IsRead (input : Stream) (site : Site) : Type 0 where
   pub valid : IsValid site
   pub built : IsBuiltSite site
   pub text : (bytes : List ℕ) → input.before ≡ Some bytes → IsSiteText bytes site
+  pub whole : IsAtEnd input.after
 
 -- what reading a site gives
 abbrev pub ReadsSite : Stream → Result Site PlanFault → Type 0

@@ -1,5 +1,5 @@
 -- The lines of good items, one after another, are the text of the site so far.
-use Rattle.std.proofs.Common.{◌≡◌, ◌≢◌, ℕ, zero, suc, ◌+◌, ◌^◌, ◌≤◌, ◌<◌, ◌⊎◌, inl, inr, ℤ, pos, List, [], ◌∷◌, ◌++◌, length, get_or, map, Bool, true, false, ◌==◌, ◌&&◌, refl, sym, ap, ◌∙◌, subst, append_assoc, arith, All, Option, Some, None, IsTrue, codes}
+use Rattle.std.proofs.Common.{◌≡◌, ℕ, zero, suc, ◌^◌, ◌≤◌, ◌<◌, ◌⊎◌, inl, inr, ℤ, pos, List, [], ◌∷◌, ◌++◌, length, get_or, Bool, true, false, ◌==◌, refl, sym, ap, ◌∙◌, subst, append_assoc, arith, All, Option, Some, IsTrue, codes}
 use Rattle.std.specs.Prelude.{nat_le}
 use Rattle.std.proofs.lemmas.Int.{ints}
 use Rattle.std.specs.Fmt.{decimal, digits}
@@ -10,19 +10,15 @@ use Rattle.cable_definitions.specs.declared.site.Version.{Version}
 use Rattle.cable_definitions.specs.declared.site.Version.TheVariants.{One, Two}
 use Rattle.cable_definitions.specs.declared.site.Mode.{Mode}
 use Rattle.cable_definitions.specs.declared.site.Point.{Point}
-use Rattle.cable_definitions.specs.declared.site.Kind.{Kind}
-use Rattle.cable_definitions.specs.declared.site.Kind.TheVariants.{Turbine, Substation, Bend}
 use Rattle.cable_definitions.specs.declared.site.CableType.{CableType}
 use Rattle.cable_definitions.specs.declared.site.Pair.{Pair}
-use Rattle.cable_definitions.specs.declared.site.PairRule.{PairRule}
-use Rattle.cable_definitions.specs.declared.site.PairRule.TheVariants.{Charge, Closed}
 use Rattle.cable_definitions.specs.declared.site.SiteCode.TheVariants.{Form, Range}
 use Rattle.cable_definitions.specs.Numeral.{spelling}
-use Rattle.cable_definitions.specs.Site.{Site, version_number, IsCableType, IsKind, IsPairRule}
-use Rattle.cable_definitions.specs.Text.{line, number, site_line, mode_line, mode_word, type_line, point_line, point_words, corner_line, pair_line, pair_words, name_of}
-use Rattle.cable_definitions.specs.Items.{Draft, RawItem, RawKind, RawRule, ATurbine, ASubstation, ABend, ACharge, AClosing, AVersion, AMode, AType, APoint, AnObstacle, ACorner, APair, IsAt, raw_kind, raw_rule, with_corner, within, may_stand, is_settled, IsGood, Adds, HasWords}
+use Rattle.cable_definitions.specs.Site.{Site, version_number}
+use Rattle.cable_definitions.specs.Text.{line, number, site_line, mode_line, type_line, point_line, corner_line, pair_line}
+use Rattle.cable_definitions.specs.Items.{Draft, RawItem, AnObstacle, with_corner, within, may_stand, is_settled, IsGood}
 use Rattle.site_model.specs.Drafts.{IsDraft}
-use Rattle.site_text.proofs.Numbers.{small_count, small_coordinate, number_spelled, IsSmall}
+use Rattle.site_text.proofs.Numbers.{small_count, number_spelled, IsSmall}
 use Rattle.site_text.proofs.DraftText.{body, text_at, text_so_far, text_behind, type_grows, point_grows, obstacle_grows, corner_grows, corner_closes, pair_grows}
 
 -- what IsDraft leaves open: no points before some type, and corners only in an open obstacle

@@ -71,7 +71,7 @@ pub no_line : (bytes : List ℕ) (piece : Piece) (rest : List ℕ) → IsNext by
 no_line bytes (Whole text) rest next none front = none text refl
 no_line bytes LongLine rest next none front = newline_at bytes front.0 front.1 front.4 front.3 next.1 next.0
 no_line bytes CutLine rest next none front = let there = newline_there bytes front.0 front.1 front.4 in newline_in bytes (length front.0) there.1 there.0 next.2
-no_line bytes NoLine rest next none front = let there = newline_there bytes front.0 front.1 front.4 in omega (arith, ap length next, there.1)
+no_line bytes NoLine rest next none front = let there = newline_there bytes front.0 front.1 front.4 in omega (arith, ap length next.0, there.1)
 
 -- points of one name and one place
 pub record SamePoint (p q : Point) : Type 0 where

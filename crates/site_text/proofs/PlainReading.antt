@@ -1,10 +1,10 @@
 -- What a reader of lines finds in the bytes to come, where these are told.
 use Rattle.std.proofs.Common.{◌≡◌, ◌≢◌, ℕ, ◌+◌, ◌≤◌, List, [], ◌∷◌, ◌++◌, Option, Some, None, Result, Ok, Err, IfNone, refl, sym, ap, ◌∙◌, subst, append_assoc, length, All, codes, arith, ◌*◌, ℤ, pos, negsuc}
 use Rattle.cable_definitions.specs.Text.{number, words, Piece, Whole, LongLine, CutLine, NoLine, HasNoNewline, type_line}
-use Rattle.cable_text.specs.Stream.{Gives}
+use Rattle.cable_text.specs.Stream.{Gives, IsAtEnd}
 use Rattle.cable_text.specs.Lines.{LinesState, ahead, Finds, ReadsPiece, ReadsLine}
 use Rattle.cable_text.specs.declared.fault.Line.{Line}
-use Rattle.cable_text.specs.declared.fault.Line.TheVariants.{Text}
+use Rattle.cable_text.specs.declared.fault.Line.TheVariants.{Text, End}
 use Rattle.cable_text.specs.declared.fault.LineFault.{LineFault}
 use Rattle.cable_text.specs.declared.fault.LineFault.TheVariants.{TooLong, NoNewline}
 use Rattle.site_text.specs.Plain.{Never, StartsWith, StartsWithLine, StartsWithType, IsPlainType, type_words}
@@ -115,6 +115,17 @@ not_ended (Some bytes) new (Whole text) f h = λ e. let n = f.1.0 in omega (arit
 not_ended (Some bytes) new LongLine f h = λ e. let n = f.1.0 in omega (arith, ap length e)
 not_ended (Some bytes) new CutLine f h = λ e. let n = f.1.0 in omega (arith, ap length e)
 not_ended (Some bytes) new NoLine f h = absurd (h refl)
+
+-- where no line stands next the bytes have ended, and none are left
+pub at_end : (old new : Option (List ℕ)) → Finds old NoLine new → IsAtEnd old × IsAtEnd new
+at_end None new f = (tt, subst IsAtEnd (sym f) tt)
+at_end (Some bytes) new f = (f.1.0, subst IsAtEnd (sym f.2) f.1.1)
+
+pub end_found : {old new : LinesState} {l m : Option (List ℕ)} {i j : ℕ} {r : Result Line LineFault} → ReadsLine old new l m i j r → r ≡ Ok End
+    → IsAtEnd (ahead old.pending l) × IsAtEnd (ahead new.pending m)
+end_found {old} {new} {l} {m} {i} {j} {r} reads e =
+    let P : Result Line LineFault → Type 0 = λ o. ReadsPiece (ahead old.pending l) (ahead new.pending m) new.text i j o in
+    at_end (ahead old.pending l) (ahead new.pending m) (subst P e reads.piece)
 
 -- an overlong line is no end
 pub long_not_end : {old new : LinesState} {l m : Option (List ℕ)} {i j : ℕ} {r : Result Line LineFault} → ReadsLine old new l m i j r → r ≡ Err TooLong → Never (ahead old.pending l) (λ bytes. bytes ≡ [])

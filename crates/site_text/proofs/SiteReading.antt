@@ -1,16 +1,13 @@
 -- A run of good items from the beginning to the end reads the lines of the site that it leads to.
-use Rattle.std.proofs.Common.{◌≡◌, ◌≢◌, ℕ, zero, suc, ◌+◌, ◌^◌, ◌≤◌, ◌<◌, ◌⊎◌, inl, inr, ℤ, pos, List, [], ◌∷◌, ◌++◌, length, map, Bool, true, false, ◌==◌, ◌&&◌, refl, sym, ap, ◌∙◌, subst, append_assoc, arith, All, Option, Some, None, codes}
+use Rattle.std.proofs.Common.{◌≡◌, ◌≢◌, ℕ, ◌≤◌, ◌⊎◌, inl, inr, ℤ, pos, List, [], ◌∷◌, ◌++◌, map, true, ◌==◌, refl, sym, ap, ◌∙◌, subst, append_assoc, arith, Option, Some, codes}
 use Rattle.std.specs.Prelude.{nat_le}
 use Rattle.std.specs.List.{concat}
 use Rattle.std.specs.Fmt.{decimal}
 use Rattle.std.proofs.lemmas.Bool.{eqb-true, leb-true, and_parts}
-use Rattle.std.proofs.lemmas.List.{append-nil}
-use Rattle.std.proofs.lemmas.Fmt.{decimal_digit}
 use Rattle.cable_definitions.specs.declared.place.Place.{Place}
 use Rattle.cable_definitions.specs.declared.site.Version.{Version}
 use Rattle.cable_definitions.specs.declared.site.Version.TheVariants.{One, Two}
 use Rattle.cable_definitions.specs.declared.site.Mode.{Mode}
-use Rattle.cable_definitions.specs.declared.site.Point.{Point}
 use Rattle.cable_definitions.specs.declared.site.Kind.{Kind}
 use Rattle.cable_definitions.specs.declared.site.Kind.TheVariants.{Turbine, Substation, Bend}
 use Rattle.cable_definitions.specs.declared.site.CableType.{CableType}
@@ -18,8 +15,8 @@ use Rattle.cable_definitions.specs.declared.site.Pair.{Pair}
 use Rattle.cable_definitions.specs.declared.site.PairRule.{PairRule}
 use Rattle.cable_definitions.specs.declared.site.PairRule.TheVariants.{Charge, Closed}
 use Rattle.cable_definitions.specs.Numeral.{spelling}
-use Rattle.cable_definitions.specs.Site.{Site, version_number, IsCableType, IsKind, IsPair, IsPairRule, IsValid}
-use Rattle.cable_definitions.specs.Text.{line, words, number, site_line, mode_line, mode_word, obstacle_lines, site_lines, Piece, Whole, LongLine, CutLine, NoLine, IsNext, type_line, point_line, point_words, corner_line, pair_line, name_of, Reads}
+use Rattle.cable_definitions.specs.Site.{Site, IsCableType, IsKind, IsPair, IsPairRule, IsValid}
+use Rattle.cable_definitions.specs.Text.{line, words, site_line, mode_line, mode_word, obstacle_lines, site_lines, Piece, Whole, LongLine, CutLine, NoLine, IsNext, type_line, point_line, point_words, corner_line, pair_line, name_of, Reads}
 use Rattle.cable_definitions.specs.Items.{Draft, RawItem, RawRule, AVersion, AMode, AType, APoint, AnObstacle, ACorner, APair, TheEnd, Misshapen, Stray, Unended, Missing, Overlong, raw_kind, raw_rule, is_settled, NamesMode, HasTypeWords, HasPointWords, HasPairWords, HasWords, IsGood, Adds, IsItemOf, IsItemAt, ReadsItems, empty_draft}
 use Rattle.cable_definitions.specs.Document.{IsSiteAtFront}
 use Rattle.site_text.proofs.Numbers.{small_coordinate}

@@ -146,6 +146,7 @@ fn read_points<S: Source>(
 fn expect_end<S: Source>(lines: &mut Lines, src: &mut S) -> Result<(), PlainFault>
     requires { lines.old.kept ≡ None }
     ensures end { OnOk result (IsAtEnd (ahead lines.old.pending (S.left src.old))) }
+    ensures whole { OnOk result (IsAtEnd (ahead lines.new.pending (S.left src.new))) }
     ensures refused { result ≡ Err PlainFault.Refused → Never (ahead lines.old.pending (S.left src.old)) (λ bytes. bytes ≡ []) }
     ensures read { result ≡ Err PlainFault.Read → Rose (S.faults src.old) (S.faults src.new) }
     ensures count { S.faults src.old ≤ S.faults src.new }
@@ -175,6 +176,7 @@ pub fn read_plain_site<S: Source>(
     ensures valid { IfOk result (λ s. IsValid s) }
     ensures built { IfOk result (λ s. IsBuiltSite s) }
     ensures text { IfOk result (λ s. IsTextOf (ahead lines.old.pending (S.left src.old)) s) }
+    ensures whole { OnOk result (IsAtEnd (ahead lines.new.pending (S.left src.new))) }
     ensures refused { result ≡ Err PlainFault.Refused → Never (ahead lines.old.pending (S.left src.old)) IsPlainText }
     ensures read { result ≡ Err PlainFault.Read → Rose (S.faults src.old) (S.faults src.new) }
     ensures count { S.faults src.old ≤ S.faults src.new }

@@ -9,4 +9,4 @@ returns g c =
     let plan = c.in-Ok.ensures in
     let text = document_text c.in_ok-site.site c.args.budget [] c.in-Ok.layout c.in-Ok.claim in
     let planned : IsPlanned c.in_ok-site.site c.args.budget text c.in-Ok.claim = record { cables = c.in-Ok.layout; text = refl; in_order = plan.in_order; layout = plan.layout; says = plan.says } in
-    (c.in-Err.ensures.failed, inr (text, c.in-Ok.claim, record { site = c.in_ok-site.site; valid = read.valid; built = read.built; read = read.text; planned = planned }, c.in-Err.ensures.part))
+    (c.in-Err.ensures.failed, inr (text, c.in-Ok.claim, record { site = c.in_ok-site.site; valid = read.valid; built = read.built; read = read.text; whole = read.whole; planned = planned }, c.in-Err.ensures.part))
