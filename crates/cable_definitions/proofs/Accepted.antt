@@ -20,8 +20,8 @@ use Rattle.cable_definitions.specs.Arcs.{IsPoint, IsCandidate, AreArcs, kind_of,
 use Rattle.cable_definitions.specs.Walk.{most_steps}
 use Rattle.cable_definitions.specs.Row.{Row, is_equation, Question, SomeMember, RightCount, InRange, Ascending, RightKind, NoSubstation, Incompatible, Meets}
 use Rattle.cable_definitions.specs.Choice.{Choice, NoCable, Carries, IsChoice, AreLawful, reduced_cost, AtMost, IsValue}
-use Rattle.cable_definitions.specs.Tree.{Item, RowItem, WorkItem, Kept, root, worked, Stopped, IsBound, IsAccepted, is_open_leaf}
-use Rattle.cable_definitions.specs.Document.{Yes}
+use Rattle.cable_definitions.specs.Tree.{Item, RowItem, WorkItem, Kept, root, worked, Stopped, IsBound, IsAccepted, Agrees, is_open_leaf}
+use Rattle.cable_definitions.specs.Text.{document_text}
 use Rattle.cable_definitions.proofs.Sites.{arc, cable, two_points, only_arc, out_row}
 use Rattle.cable_definitions.proofs.Plans.{arc_is_candidate, one_cable_is_legal}
 
@@ -230,21 +230,11 @@ least_bound : All (λ v. IsTrue (is_open_leaf v.status) → 50000 ≤ v.bound) a
 least_bound zero d l = λ t. omega arith
 least_bound (suc k) d l = absurd (omega (arith, l))
 
--- ---- so is the document
-pub document_is_accepted : Yes (codes "site 1\nmode tree\ntype 400 100\nsubstation S 0 0 4 10000\nturbine A 300 400 100\nend site\nbudget 10\nrow out 1\nwork 1 1\nby 0 52428800000\nstop\nlayout 1\ncable A S 0\noptimal 50000\nend document\n") two_points (Optimal 50000)
-unfolding digits most_steps length_of root_bits
-document_is_accepted = record {
-  arcs = only_arc;
-  budget = 10;
-  items = items;
-  cables = cable 1 0 0 ∷ [];
-  kept = after_work;
-  valid = two_points_are_valid;
-  are_arcs = it_is_the_arc;
-  is_budget = (omega arith, omega arith);
-  text = refl;
-  in_order = λ i j d h l. absurd (omega (arith, h, l));
-  accepted = items_are_accepted;
-  in_range = omega arith;
-  agrees = ((one_cable_is_legal, refl), record { reached = (0, _, omega arith, refl, (refl, refl)); least = least_bound });
-}
+-- ---- the text of the document, whose layout and least bound are as its claim says
+pub document_is_spelled : codes "site 1\nmode tree\ntype 400 100\nsubstation S 0 0 4 10000\nturbine A 300 400 100\nend site\nbudget 10\nrow out 1\nwork 1 1\nby 0 52428800000\nstop\nlayout 1\ncable A S 0\noptimal 50000\nend document\n" ≡ document_text two_points 10 items (cable 1 0 0 ∷ []) (Optimal 50000)
+unfolding digits
+document_is_spelled = refl
+
+pub claim_agrees : Agrees two_points 10 after_work (cable 1 0 0 ∷ []) (Optimal 50000)
+unfolding most_steps length_of root_bits
+claim_agrees = ((one_cable_is_legal, refl), record { reached = (0, _, omega arith, refl, (refl, refl)); least = least_bound })

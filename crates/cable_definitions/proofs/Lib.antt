@@ -10,7 +10,7 @@ pub mod Touching
 pub mod Lists
 -- rules that are broken, the first broken rule, and rules of rings and of tighter sites
 pub mod Rules
--- whole plans: a farm without turbines, a turbine without a substation, and one cable
+-- what is legal and what it costs: a farm without turbines, a turbine without a substation, and one cable
 pub mod Plans
 -- sites, documents, reports, answers and notes, byte by byte
 pub mod Texts

@@ -1,4 +1,4 @@
--- Whole plans: a farm without turbines, a turbine without a substation, and one cable.
+-- What is legal and what it costs: a farm without turbines, a turbine without a substation, and one cable.
 use Rattle.std.proofs.Common.{◌≡◌, ◌≢◌, ℕ, zero, suc, ◌<◌, ◌≤◌, [], ◌∷◌, refl, ap, sym, arith, subst, ◌∙◌}
 use Rattle.std.specs.Prelude.{codes, unwrap_or}
 use Rattle.std.specs.Fmt.{digits}
@@ -15,7 +15,6 @@ use Rattle.cable_definitions.specs.Plane.{length_of, root_bits}
 use Rattle.cable_definitions.specs.Arcs.{IsPoint, IsCandidate, is_substation, is_bend, capacity_of, cost_of}
 use Rattle.cable_definitions.specs.Walk.{load, most_steps}
 use Rattle.cable_definitions.specs.Layout.{IsCable, KeepsJoined, KeepsEnd, KeepsCapacity, KeepsFeeders, KeepsPower, IsLegal, Least, HasNone}
-use Rattle.cable_definitions.specs.Plan.{IsPlanned}
 use Rattle.cable_definitions.proofs.Sites.{cable, no_turbine, no_substation, two_points}
 use Rattle.cable_definitions.proofs.Lists.{none_listed, is_the_one, listed_out, one_of_sum}
 
@@ -41,7 +40,7 @@ nothing_joins : (p : ℕ) → KeepsJoined no_turbine [] p
 nothing_joins zero t = absurd (false≢true t)
 nothing_joins (suc p) t = absurd (false≢true t)
 
-nothing_is_legal : IsLegal no_turbine []
+pub nothing_is_legal : IsLegal no_turbine []
 unfolding is_strings
 nothing_is_legal = record {
   range = λ i. record { from = λ c e. absurd (none_listed i c e); to = λ c e. absurd (none_listed i c e); grade = λ c e. absurd (none_listed i c e) };
@@ -57,19 +56,11 @@ nothing_is_legal = record {
   clear = λ a b i j c d e. absurd (none_listed i c e);
 }
 
-pub no_turbine_is_planned : IsPlanned no_turbine 8191 (codes "site 1\nmode tree\ntype 400 1\nsubstation S 0 0 4 10000\nend site\nbudget 8191\nlayout 0\noptimal 0\nend document\n") (Optimal 0)
-unfolding digits
-no_turbine_is_planned = record { cables = []; text = refl; in_order = λ i j d h k. absurd (omega (arith, k)); layout = (nothing_is_legal, refl); says = λ cables l. omega arith }
-
 -- ---- a turbine without a substation: no cable can start there
 pub no_legal_layout : HasNone no_substation
 no_legal_layout cables l =
     let (i, c, e, f) = listed_out cables 0 (l.joined 0 refl) in
     (l.candidate i c e).different (omega (arith, f, (l.range i).to c e))
-
-pub no_substation_is_planned : IsPlanned no_substation 8191 (codes "site 1\nmode tree\ntype 400 1\nturbine A 0 0 100\nend site\nbudget 8191\nlayout 0\ninfeasible\nend document\n") Infeasible
-unfolding digits
-no_substation_is_planned = record { cables = []; text = refl; in_order = λ i j d h k. absurd (omega (arith, k)); layout = refl; says = no_legal_layout }
 
 -- ---- one cable: where it starts
 starts_at_one : (i p : ℕ) (c : Cable) → IsCable (cable 1 0 0 ∷ []) i c → c.from ≡ p → p ≡ 1
@@ -169,7 +160,3 @@ no_cheaper_layout cables l =
     let to : c.to ≡ 0 = omega (arith, f, (l.range i).to c e, (l.candidate i c e).different) in
     let grade : c.grade ≡ 0 = omega (arith, (l.range i).grade c e) in
     omega (arith, one_of_sum (λ d. cost_of two_points d.from d.to d.grade (load two_points cables d.from)) cables i c e, fixed_cost c.from c.to c.grade (load two_points cables c.from) f to grade)
-
-pub one_cable_is_planned : IsPlanned two_points 8191 (codes "site 1\nmode tree\ntype 400 100\nsubstation S 0 0 4 10000\nturbine A 300 400 100\nend site\nbudget 8191\nlayout 1\ncable A S 0\noptimal 50000\nend document\n") (Optimal 50000)
-unfolding digits most_steps length_of root_bits
-one_cable_is_planned = record { cables = cable 1 0 0 ∷ []; text = refl; in_order = λ i j d h k. absurd (omega (arith, h, k)); layout = (one_cable_is_legal, refl); says = no_cheaper_layout }

@@ -23,12 +23,15 @@ pub plan_is_built : IsBuiltWords (codes "plan" ∷ codes "8191" ∷ []) (Plan 81
 unfolding digits
 plan_is_built = (omega arith, omega arith, refl, refl)
 
--- a number of lanes isn't, a lesser budget isn't, and another command isn't
+pub check_is_built : IsBuiltWords (codes "check" ∷ []) Check
+check_is_built = refl
+
+-- a number of lanes isn't, a lesser budget isn't, and other commands aren't
 pub lanes_are_not_built : (n lanes : ℕ) → ¬ (IsBuiltWords (codes "plan" ∷ codes "9000" ∷ codes "1" ∷ []) (Plan n lanes))
 lanes_are_not_built n lanes h = absurd (omega (arith, ap length h.3))
 
 pub small_budget_is_not_built : (words : List (List ℕ)) → ¬ (IsBuiltWords words (Plan 1023 1))
 small_budget_is_not_built words h = absurd (omega (arith, h.0))
 
-pub check_is_not_built : (words : List (List ℕ)) → ¬ (IsBuiltWords words Check)
-check_is_not_built words h = absurd h
+pub drill_is_not_built : (words : List (List ℕ)) (k turbines n : ℕ) → ¬ (IsBuiltWords words (Drill k turbines n))
+drill_is_not_built words k turbines n h = absurd h
