@@ -1,3 +1,5 @@
+-- a place is its two coordinates
+pub mod Places
 -- places, cables and sites of the examples
 pub mod Sites
 -- lengths, walks, loads and costs that compute

@@ -1,11 +1,9 @@
 -- What is legal and what it costs: a farm without turbines, a turbine without a substation, and one cable.
 use Rattle.std.proofs.Common.{◌≡◌, ◌≢◌, ℕ, zero, suc, ◌<◌, ◌≤◌, [], ◌∷◌, refl, ap, sym, arith, subst, ◌∙◌}
-use Rattle.std.specs.Prelude.{codes, unwrap_or}
-use Rattle.std.specs.Fmt.{digits}
+use Rattle.std.specs.Prelude.{unwrap_or}
 use Rattle.std.proofs.lemmas.Bool.{false≢true}
 use Rattle.std.proofs.lemmas.Option.{none-some}
 use Rattle.cable_definitions.specs.declared.cable.Cable.{Cable}
-use Rattle.cable_definitions.specs.declared.claim.Claim.TheVariants.{Optimal, Infeasible}
 use Rattle.cable_definitions.specs.declared.site.Kind.{Kind}
 use Rattle.cable_definitions.specs.declared.site.Kind.TheVariants.{Turbine, Substation, Bend}
 use Rattle.cable_definitions.specs.declared.site.Mode.{Mode}
