@@ -11,7 +11,7 @@ const SHELVES: usize = 256;
 
 /// A list of cables, with the first one out of each point at hand.
 #[derive(Drop)]
-pub(crate) struct Outgoing<'a> {
+pub struct Outgoing<'a> {
     cables: &'a [Cable],
     first: [Option<Cable>; SHELVES],
 }
@@ -44,7 +44,7 @@ fn first_out(cables: &[Cable]) -> [Option<Cable>; SHELVES]
 
 impl<'a> Outgoing<'a> {
     /// The list with its first cables at hand.
-    pub(crate) fn new(cables: &'a [Cable]) -> Outgoing<'a>
+    pub fn new(cables: &'a [Cable]) -> Outgoing<'a>
         ensures { result ≡ cables.now }
     {
         let first = first_out(cables);
@@ -52,14 +52,14 @@ impl<'a> Outgoing<'a> {
     }
 
     /// The list of cables.
-    pub(crate) fn cables(&self) -> &[Cable]
+    pub fn cables(&self) -> &[Cable]
         ensures { result.now ≡ self.now }
     {
         self.cables
     }
 
     /// The first cable that starts in a point.
-    pub(crate) fn cable_out(&self, p: u32) -> Option<Cable>
+    pub fn cable_out(&self, p: u32) -> Option<Cable>
         ensures { result ≡ cable_out_of self.now p }
     {
         let shelf = p as usize;
@@ -71,7 +71,7 @@ impl<'a> Outgoing<'a> {
     }
 
     /// Whether some cable starts in a point.
-    pub(crate) fn starts(&self, p: u32) -> bool
+    pub fn starts(&self, p: u32) -> bool
         ensures { IsTrue result ↔ Starts self.now p }
     {
         self.cable_out(p).is_some()

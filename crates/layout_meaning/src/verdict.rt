@@ -13,7 +13,7 @@ use crate::layout::Layout;
 use crate::loads::{first_overloaded, first_overpowered};
 use crate::numbers::{first_out_of_range, first_repeated_start};
 use crate::outgoing::Outgoing;
-use crate::walks::loads;
+use crate::walks::all_loads;
 use cable_definitions::cable::{Cable, Rule};
 use site_model::Site;
 
@@ -171,7 +171,7 @@ pub fn judge_cables(site: &Site, cables: &[Cable]) -> Verdict
         return broken(breach);
     }
     let outgoing = Outgoing::new(cables);
-    let loads = loads(site, &outgoing);
+    let loads = all_loads(site, &outgoing);
     match breach_of_farm(site, &outgoing, &loads) {
         Some(breach) => broken(breach),
         None => Verdict::Legal(total_cost(site, cables, &loads)),

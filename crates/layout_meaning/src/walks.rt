@@ -77,8 +77,8 @@ pub fn load(site: &Site, cables: &[Cable], p: u32) -> u32
     load_at(site, &Outgoing::new(cables), p)
 }
 
-/// The loads of the cables out of all points of a site, by the points' numbers.
-pub(crate) fn loads(site: &Site, cables: &Outgoing) -> [u32; 256]
+/// The loads, in power units, of the cables out of all points of a site, by the points' numbers.
+pub fn all_loads(site: &Site, cables: &Outgoing) -> [u32; 256]
     ensures { AreLoads site.now cables.now result }
 {
     let count = site.points().len();

@@ -42,3 +42,5 @@ pub mod NearestValue
 pub mod Rising
 -- one weight on the row of each turbine
 pub mod TurbineWeights
+-- a site of few points has few candidate arcs
+pub mod FewArcs

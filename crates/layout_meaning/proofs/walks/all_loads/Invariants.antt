@@ -1,7 +1,7 @@
 use Rattle.std.proofs.Common.{◌≡◌, ◌<◌, ◌≤◌, ℕ, length}
 use Rattle.std.specs.Prelude.{slice_index}
 use Rattle.cable_definitions.specs.Walk.{load}
-use Rattle.layout_meaning.proofs.walks.loads.Given as goal
+use Rattle.layout_meaning.proofs.walks.all_loads.Given as goal
 
 abbrev pub invariant-loop-p : goal.invariant-loop-p
 invariant-loop-p l = record {
