@@ -1,0 +1,2 @@
+-- runs of a reader of which one goes further than the other
+pub mod Runs
