@@ -1,8 +1,8 @@
 -- The first code of an item, one code after another.
 use Rattle.site_model.specs.declared.fault.BuildFault.{BuildFault}
 use Rattle.site_model.specs.declared.fault.BuildFault.TheVariants.{Refused}
-use Rattle.std.specs.Result.{is_err, OnOk}
-use Rattle.std.proofs.Common.{◌≡◌, ◌↔◌, Result, Ok, Err, false, ℕ, zero, suc, ◌<◌, ◌≤◌, ⊎_elim, IsTrue, refl, sym, ap, ◌∙◌, subst, arith}
+use Rattle.std.specs.Result.{is_err, OnOk, OnErr}
+use Rattle.std.proofs.Common.{◌≡◌, ◌↔◌, Result, Ok, Err, true, false, ℕ, zero, suc, ◌<◌, ◌≤◌, ⊎_elim, IsTrue, refl, sym, ap, ◌∙◌, subst, arith}
 use Rattle.std.specs.Prelude.{All, IsSome}
 use Rattle.std.proofs.lemmas.Bool.{cases_lt}
 use Rattle.cable_definitions.specs.declared.site.SiteCode.{SiteCode}
@@ -92,10 +92,6 @@ KeepsBelow-line d item short = KeepsBelow-past d item TooLong (λ other l. absur
   none_below InObstacle l = omega arith
   none_below TooMany l = omega arith
 
--- an item that may not stand
-pub IsFirstCode-form : (d : Draft) (item : RawItem) → ¬ (item ≡ Overlong) → ¬ (IsTrue (may_stand d item)) → IsFirstCode d item Form
-IsFirstCode-form d item short astray = IsFirstCode-at d item Form (KeepsBelow-line d item short) astray
-
 -- an item that may stand and whose numbers are all given keeps the first three rules
 pub KeepsBelow-shaped : (d : Draft) (item : RawItem) → ¬ (item ≡ Overlong) → IsTrue (may_stand d item) → IsTrue (is_readable item) → All (λ f. IsSome f.value) (fields_of item) → KeepsBelow d item 4
 KeepsBelow-shaped d item short stands readable given =
@@ -131,3 +127,8 @@ not_refused d item good code = (λ e. absurd (cc), λ first. absurd (IsFirstCode
 pub OnOk-at : {T E : Type 0} {P : Type 0} (r : Result T E) → is_err r ≡ false → OnOk r P → P
 OnOk-at (Ok v) e h = h
 OnOk-at (Err y) e h = absurd (cc)
+
+-- what a call says of its failure, where it failed
+pub OnErr-at : {T E : Type 0} {P : Type 0} (r : Result T E) → is_err r ≡ true → OnErr r P → P
+OnErr-at (Ok v) e h = absurd (cc)
+OnErr-at (Err y) e h = h

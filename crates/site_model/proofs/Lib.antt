@@ -1,4 +1,5 @@
 pub mod Ruled
+pub mod Numbered
 pub mod Corners
 pub mod Pairs
 pub mod Types

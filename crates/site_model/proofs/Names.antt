@@ -20,16 +20,8 @@ pub is_some-number : (points : List Point) (name : List ℕ) (r : Option ℕ) �
 is_some-number points name None h = (λ e. absurd (cc), λ named. absurd (h named))
 is_some-number points name (Some k) h = (λ e. Any-named points name k h.0 h.1, λ named. refl)
 
--- some point of the same points has the same name
-pub Any-named_same : (points others : List Point) (name : List ℕ) → points ≡ others → Any (λ p. p.name ≡ name) points → Any (λ p. p.name ≡ name) others
-Any-named_same points others name same h = subst (λ (ps : List Point). Any (λ p. p.name ≡ name) ps) same h
-
 -- some point of the same points stands at the same coordinates
 pub Any-placed_same : (points others : List Point) (x y u v : Option ℤ) → points ≡ others → x ≡ u → y ≡ v → Any (λ p. IsAt x y p.at) points → Any (λ p. IsAt u v p.at) others
 Any-placed_same points others x y u v same x_is y_is h =
     subst (λ (ps : List Point). Any (λ p. IsAt u v p.at) ps) same
     (subst (λ (w : Option ℤ). Any (λ p. IsAt u w p.at) points) y_is (subst (λ (w : Option ℤ). Any (λ p. IsAt w y p.at) points) x_is h))
-
--- the number of a name among the same points
-pub numbered_same : (points others : List Point) (name : List ℕ) (k : ℕ) → points ≡ others → (k < length points) × (name_from (slice_get points k) ≡ name) → (k < length others) × (name_from (slice_get others k) ≡ name)
-numbered_same points others name k same h = subst (λ (ps : List Point). (k < length ps) × (name_from (slice_get ps k) ≡ name)) same h

@@ -4,7 +4,7 @@ use Rattle.std.specs.Prelude.{All, AllPairs, Any, IsSome, slice_get}
 use Rattle.std.proofs.lemmas.Int.{ints}
 use Rattle.std.proofs.lemmas.Bool.{cases_order, or_left, or_right, and_from, eq-eqb}
 use Rattle.std.proofs.lemmas.Option.{slice_get_cases, slice_get-get_or}
-use Rattle.std.proofs.lemmas.List.Elements.{All-nil, All-cons, All-head, All-tail}
+use Rattle.std.proofs.lemmas.List.Elements.{All-nil, All-cons}
 use Rattle.cable_definitions.specs.declared.site.Point.{Point}
 use Rattle.cable_definitions.specs.declared.site.Pair.{Pair}
 use Rattle.cable_definitions.specs.declared.site.PairRule.{PairRule}
@@ -13,11 +13,11 @@ use Rattle.cable_definitions.specs.declared.site.SiteCode.TheVariants.{Range, Ba
 use Rattle.cable_definitions.specs.Naming.{IsName}
 use Rattle.cable_definitions.specs.Site.{Site, IsPair, IsPairRule, joins}
 use Rattle.cable_definitions.specs.Text.{name_from, name_of}
-use Rattle.cable_definitions.specs.Items.{RawItem, Draft, Overlong, TheEnd, may_stand, within, rule_fields, IsWithin, raw_rule, HasNamed, IsOnNames, IsGood, IsFirstCode, Adds}
+use Rattle.cable_definitions.specs.Items.{RawItem, Draft, Overlong, may_stand, within, rule_fields, IsWithin, raw_rule, HasNamed, IsOnNames, IsGood}
 use Rattle.site_model.specs.Building.{pair_item, rule_item}
 use Rattle.site_model.specs.Drafts.{IsDraft, item_of_pair}
 use Rattle.site_model.proofs.Ranges.{IsWithin-some}
-use Rattle.site_model.proofs.Codes.{KeepsBelow, KeepsBelow-past, KeepsBelow-shaped, IsFirstCode-at, IsGood-kept}
+use Rattle.site_model.proofs.Codes.{KeepsBelow, KeepsBelow-past, KeepsBelow-shaped, IsGood-kept}
 use Rattle.site_model.proofs.Drafts.{IsDraft-pair, joins_cases}
 
 -- the number of a rule is given
@@ -38,21 +38,11 @@ KeepsBelow-pair_stands d a b amount stands = KeepsBelow-shaped d (pair_item a b 
     no_line : pair_item a b amount ≡ Overlong → ⊥
     no_line e = cc
 
--- a pair rule whose charge is out of range
-pub IsFirstCode-rule : (d : Draft) (a b : List ℕ) (amount : Option ℤ) → IsTrue (may_stand d (pair_item a b amount)) → ¬ (All IsWithin (rule_fields (rule_item amount))) → IsFirstCode d (pair_item a b amount) Range
-IsFirstCode-rule d a b amount stands out = IsFirstCode-at d (pair_item a b amount) Range (KeepsBelow-pair_stands d a b amount stands) out
-
 -- a pair rule in range
 pub KeepsBelow-pair_ranges : (d : Draft) (a b : List ℕ) (amount : Option ℤ) (rule : PairRule) → IsTrue (may_stand d (pair_item a b amount)) → rule_item amount ≡ raw_rule rule → IsPairRule rule → KeepsBelow d (pair_item a b amount) 5
 KeepsBelow-pair_ranges d a b amount rule stands same fits =
     KeepsBelow-past d (pair_item a b amount) Range (KeepsBelow-pair_stands d a b amount stands)
     (λ out. out (subst (λ r. All IsWithin (rule_fields r)) (sym same) (rule_within rule fits)))
-
--- a pair rule of which a name is none
-pub IsFirstCode-bad_names : (d : Draft) (a b : List ℕ) (amount : Option ℤ) → KeepsBelow d (pair_item a b amount) 5 → (¬ (IsName a)) ⊎ (¬ (IsName b)) → IsFirstCode d (pair_item a b amount) BadName
-IsFirstCode-bad_names d a b amount kept bad =
-    IsFirstCode-at d (pair_item a b amount) BadName kept
-    (λ all. ⊎_elim (λ (n : ¬ (IsName a)). n (All-head IsName a (b ∷ []) all)) (λ (n : ¬ (IsName b)). n (All-head IsName b [] (All-tail IsName a (b ∷ []) all))) bad)
 
 -- a pair rule of two names
 pub KeepsBelow-pair_names : (d : Draft) (a b : List ℕ) (amount : Option ℤ) → KeepsBelow d (pair_item a b amount) 5 → IsName a → IsName b → KeepsBelow d (pair_item a b amount) 8
@@ -134,28 +124,6 @@ IsDraft-pushed_pair d e item p pairs same draft good first second said pushed =
     let first_here : p.a < length d.site.points = subst (λ (f : Draft). p.a < length f.site.points) (sym same) first in
     let second_here : p.b < length d.site.points = subst (λ (f : Draft). p.b < length f.site.points) (sym same) second in
     subst (λ (ps : List Pair). IsDraft (record d { stage = 5; site = record d.site { pairs = ps } })) (sym pushed) (IsDraft-pair d p first_here second_here draft good_here)
-
--- what a pair rule adds
-pub Adds-pushed_pair : (d e : Draft) (item : RawItem) (p : Pair) (pairs : List Pair) → d ≡ e → p.a < length e.site.points → p.b < length e.site.points → item ≡ item_of_pair e.site p
-    → pairs ≡ d.site.pairs ++ p ∷ [] → Adds e item (record d { stage = 5; site = record d.site { pairs = pairs } })
-Adds-pushed_pair d e item p pairs same first second said pushed =
-    let F : Draft = record d { stage = 5; site = record d.site { pairs = pairs } } in
-    let becomes : F ≡ record e { stage = 5; site = record e.site { pairs = e.site.pairs ++ p ∷ [] } } =
-    ap (λ (ps : List Pair). record d { stage = 5; site = record d.site { pairs = ps } }) pushed ∙ ap (λ (f : Draft). record f { stage = 5; site = record f.site { pairs = f.site.pairs ++ p ∷ [] } }) same in
-    let here : Adds e (item_of_pair e.site p) F = (p, first, second, refl, refl, refl, becomes) in
-    subst (λ (i : RawItem). Adds e i F) (sym said) here
-
--- ---- the end
--- the end of a site that may end
-pub IsGood-end : (d : Draft) → IsTrue (may_stand d TheEnd) → IsGood d TheEnd
-IsGood-end d stands =
-    let shaped : KeepsBelow d TheEnd 4 = KeepsBelow-shaped d TheEnd (λ e. absurd (no_line e)) stands refl (All-nil _) in
-    let named : KeepsBelow d TheEnd 6 = KeepsBelow-past d TheEnd BadName (KeepsBelow-past d TheEnd Range shaped (λ out. out (All-nil _))) (λ bad. bad (All-nil _)) in
-    let known : KeepsBelow d TheEnd 9 = KeepsBelow-past d TheEnd UnknownName (KeepsBelow-past d TheEnd SamePlace (KeepsBelow-past d TheEnd SameName named (λ h. h)) (λ h. h)) (λ h. h) in
-    IsGood-kept d TheEnd (KeepsBelow-past d TheEnd TooMany (KeepsBelow-past d TheEnd InObstacle (KeepsBelow-past d TheEnd SamePair known (λ h. h)) (λ h. h)) (λ h. h))
-  where
-    no_line : TheEnd ≡ Overlong → ⊥
-    no_line e = cc
 
 -- some rule of the same rules is on these points
 pub Any-joined_same : (pairs others : List Pair) (i j : ℕ) → pairs ≡ others → Any (λ p. IsTrue (joins i j p)) pairs → Any (λ p. IsTrue (joins i j p)) others

@@ -1,16 +1,17 @@
 -- What holds of a site so far, whichever good items have led to it.
-use Rattle.std.specs.Prelude.{Bool, ◌≡◌, ◌≢◌, ℕ, ◌+◌, ◌≤◌, ◌<◌, List, [], length, IsTrue, sum_by, All, AllPairs, Some, pos}
+use Rattle.std.specs.Prelude.{◌≡◌, ◌≢◌, ℕ, ◌+◌, ◌≤◌, ◌<◌, List, [], length, IsTrue, sum_by, All, AllPairs, Option, Some, map, pos}
 use Rattle.cable_definitions.specs.declared.place.Place.{Place}
 use Rattle.cable_definitions.specs.declared.site.Version.{Version}
 use Rattle.cable_definitions.specs.declared.site.Version.TheVariants.{One}
 use Rattle.cable_definitions.specs.declared.site.Point.{Point}
 use Rattle.cable_definitions.specs.declared.site.CableType.{CableType}
+use Rattle.cable_definitions.specs.declared.site.PairRule.{PairRule}
 use Rattle.cable_definitions.specs.declared.site.Pair.{Pair}
 use Rattle.cable_definitions.specs.Naming.{IsName}
 use Rattle.cable_definitions.specs.Plane.{SamePlace, IsOutside}
 use Rattle.cable_definitions.specs.Site.{Site, version_number, latest_version, IsCableType, IsKind, IsObstacle, IsPair, joins}
 use Rattle.cable_definitions.specs.Text.{name_of}
-use Rattle.site_model.specs.Ruled.{IsRuledTable}
+use Rattle.site_model.specs.Ruled.{IsPairTable}
 use Rattle.cable_definitions.specs.Items.{Draft, RawItem, AVersion, AType, APoint, ACorner, APair, raw_kind, raw_rule}
 
 -- at most 8 types, each in range
@@ -56,12 +57,13 @@ pub record IsDraft (d : Draft) : Type 0 where
   pub pairs : PairsFit d.site.points d.site.pairs
   pub order : StageFits d.stage d.site
 
--- a site so far, with room for the corners that are missing and for the obstacle that they complete, and the table of its pair rules
-pub record IsBuilder (d : Draft) (corners_room obstacles_room : ℕ) (ruled : List Bool) : Type 0 where
+-- a site so far, with room for the corners that are missing and for the obstacle that they complete, the table of its pair rules, and its points' names in order
+pub record IsBuilder (d : Draft) (corners_room obstacles_room : ℕ) (rules : List (Option PairRule)) (names : List (List ℕ)) : Type 0 where
   pub draft : IsDraft d
   pub corners_fit : length d.corners + d.missing ≤ corners_room
   pub obstacle_fits : 1 ≤ d.missing → length d.site.obstacles < obstacles_room
-  pub table : IsRuledTable ruled d.site.pairs
+  pub table : IsPairTable rules d.site.pairs
+  pub numbered : names ≡ map (λ p. p.name) d.site.points
 
 -- in version 1 a type has no loss
 abbrev pub FitsVersion : Draft → RawItem → Type 0

@@ -1,4 +1,5 @@
 pub mod Ruled
+pub mod Numbered
 pub mod Drafts
 pub mod Stages
 pub mod Building

@@ -1,16 +1,17 @@
 //! Candidate arcs, and what cables cost.
 
-ghost use Rattle.std.specs.Prelude.{◌≡◌, ◌≢◌, ℕ, ◌<◌, ◌≤◌, ◌↔◌, IsTrue, length, slice_get, Some, find, fold, max, All, IfSome, IfNone, ◌+◌};
+ghost use Rattle.std.specs.Prelude.{◌≡◌, ◌≢◌, ℕ, ◌<◌, ◌≤◌, ◌↔◌, IsTrue, length, slice_get, Some, fold, max, All, IfSome, IfNone, ◌+◌};
 ghost use Rattle.cable_definitions.specs.Plane.{IsOn, edges, edges_from, last_corner};
-ghost use Rattle.cable_definitions.specs.Site.{IsValid, joins};
-ghost use Rattle.cable_definitions.specs.Arcs.{IsCandidate, charge_of, rule_from, cost_by, cost_of, Bears, IsCheapest, is_substation as is_substation_of, is_turbine as is_turbine_of, kind_of, power_of as power_of_point, power_of_kind};
+ghost use Rattle.cable_definitions.specs.Site.{IsValid};
+ghost use Rattle.cable_definitions.specs.Arcs.{IsCandidate, charge_of, rule_of, cost_by, cost_of, Bears, IsCheapest, is_substation as is_substation_of, is_turbine as is_turbine_of, kind_of, power_of as power_of_point, power_of_kind};
 ghost use Rattle.cable_definitions.specs.Budget.{IsLeastOut, IsNearest};
 ghost use Rattle.site_model.specs.Best.{IsBestBelow, IsLeastBelow, IsShare, most_cost, lesser as lesser_of};
 ghost use Rattle.site_model.specs.Passing.{PassesNone, IsClear};
 
 use crate::Site;
+use crate::pair_table::rule_in;
 use cable_definitions::place::Place;
-use cable_definitions::site::{CableType, Kind, Obstacle, Pair, PairRule, Point};
+use cable_definitions::site::{CableType, Kind, Obstacle, PairRule, Point};
 use plane_geometry::{length, lies_on, meets};
 
 impl Site {
@@ -26,7 +27,7 @@ impl Site {
         if from == to || is_substation(start.kind) {
             return false;
         }
-        if is_closed(self.pairs(), from, to) {
+        if self.is_closed(from, to) {
             return false;
         }
         if power_of(start.kind) > largest_capacity(self.types()) {
@@ -42,10 +43,34 @@ impl Site {
     pub fn pair_charge(&self, a: u32, b: u32) -> u64
         ensures { result ≡ charge_of self.now a b }
     {
-        match rule_of(self.pairs(), a, b) {
+        match self.rule_of(a, b) {
             Some(PairRule::Charge(amount)) => amount,
             _ => 0,
         }
+    }
+
+    /// Whether the pair of two points is closed.
+    fn is_closed(&self, a: u32, b: u32) -> bool
+        ensures { IsTrue result ↔ (rule_of self.now a b ≡ Some PairRule.Closed) }
+    {
+        match self.rule_of(a, b) {
+            Some(PairRule::Closed) => true,
+            _ => false,
+        }
+    }
+
+    /// The rule on the pair of two points. A number past 255 is that of no point, and has none.
+    fn rule_of(&self, a: u32, b: u32) -> Option<PairRule>
+        ensures { result ≡ rule_of self.now a b }
+    {
+        let table = self.rules.as_slice();
+        if a > 255 {
+            return None;
+        }
+        if b > 255 {
+            return None;
+        }
+        rule_in(table, a, b)
     }
 
     /// The cost in cost units of a cable from one point to another, of a type by its number, that carries a load in power units: its
@@ -188,35 +213,6 @@ fn cable_cost(metres: u32, cable_type: CableType, load: u32, charge: u64) -> u64
     let load = u64::from(load);
     let loss = u64::from(cable_type.loss) * load * load;
     u64::from(metres) * (u64::from(cable_type.price) + loss) + charge
-}
-
-/// The rule on the pair of two points.
-fn rule_of(pairs: &[Pair], a: u32, b: u32) -> Option<PairRule>
-    ensures { result ≡ rule_from (find (joins a b) pairs.now) }
-{
-    for pair in pairs {
-        if is_pair_of(pair, a, b) {
-            return Some(pair.rule);
-        }
-    }
-    None
-}
-
-/// Whether a pair rule joins two points.
-fn is_pair_of(pair: &Pair, a: u32, b: u32) -> bool
-    ensures { result ≡ joins a b pair.now }
-{
-    (pair.a == a && pair.b == b) || (pair.a == b && pair.b == a)
-}
-
-/// Whether the pair of two points is closed.
-fn is_closed(pairs: &[Pair], a: u32, b: u32) -> bool
-    ensures { IsTrue result ↔ (rule_from (find (joins a b) pairs.now) ≡ Some PairRule.Closed) }
-{
-    match rule_of(pairs, a, b) {
-        Some(PairRule::Closed) => true,
-        _ => false,
-    }
 }
 
 /// Whether a substation stands at a point.

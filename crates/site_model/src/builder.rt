@@ -1,5 +1,5 @@
 ghost use Rattle.std.specs.Prelude.{true, false, slice_set, slice_index_or, ◌++◌, sum_by, vec_len, vec_capacity, ◌≢◌, ℤ, ◌==◌, IfErr, ◌&&◌, ◌≡◌, ◌↔◌, ◌≤◌, IsTrue, OnOk, OnErr, IfOk, MatchResult, MatchOption, pos, Some, [], ◌∷◌, All, Any, nat_le, length, ◌<◌, slice_get};
-ghost use Rattle.cable_definitions.specs.Text.{name_from};
+ghost use Rattle.cable_definitions.specs.Text.{name_of};
 ghost use Rattle.site_model.specs.Stages.{stage_number};
 ghost use Rattle.cable_definitions.specs.declared.site.SiteCode.{SiteCode};
 ghost use Rattle.cable_definitions.specs.declared.site.Version.{Version};
@@ -8,16 +8,18 @@ ghost use Rattle.cable_definitions.specs.Plane.{IsOutside};
 ghost use Rattle.cable_definitions.specs.Coordinate.{IsCoordinate};
 ghost use Rattle.cable_definitions.specs.Site.{version_number, latest_version, IsCableType, IsKind, IsPairRule};
 ghost use Rattle.site_model.specs.Drafts.{item_of_type, item_of_point, item_of_pair};
-ghost use Rattle.cable_definitions.specs.Items.{is_settled, may_stand, Stray, TheEnd, AnObstacle, ACorner, IsGood, IsFirstCode, Adds, IsWithin, IsAt, within, coordinate, kind_fields, rule_fields, fields_of, raw_kind, raw_rule, AType};
-ghost use Rattle.site_model.specs.Ruled.{pair_place};
+ghost use Rattle.cable_definitions.specs.Items.{HasNamed, is_settled, may_stand, Stray, TheEnd, AnObstacle, ACorner, IsGood, IsFirstCode, Adds, IsWithin, IsAt, within, coordinate, kind_fields, rule_fields, fields_of, raw_kind, raw_rule, AType};
 ghost use Rattle.site_model.specs.Building.{type_item, point_item, pair_item, kind_item, rule_item};
 
 use crate::Site;
 use crate::fault::BuildFault;
+use crate::name_index::{add_name, number_in};
+use crate::pair_table::{empty_table, enter, has_rule};
 use cable_definitions::place::Place;
 use cable_definitions::site::{
     CableType, Kind, Mode, Name, Obstacle, Pair, PairRule, Point, SiteCode, Version,
 };
+use indexmap::IndexSet;
 use plane_geometry::outside;
 use std::alloc::{AllocError, Global};
 use std::marker::Model;
@@ -52,9 +54,10 @@ pub struct SiteBuilder {
     mode: Mode,
     types: Vec<CableType>,
     points: Vec<Point>,
+    names: IndexSet<Vec<u8>>,
     obstacles: Vec<Obstacle>,
     pairs: Vec<Pair>,
-    ruled: Vec<bool>,
+    rules: Vec<Option<PairRule>>,
     corners: Vec<Place>,
     missing: usize,
 }
@@ -72,13 +75,14 @@ impl Model for SiteBuilder {
     ghost use Rattle.cable_definitions.specs.Items.{Draft};
     ghost use Rattle.std.specs.Prelude.{vec_capacity};
     ghost use Rattle.site_model.specs.Drafts.{IsBuilder};
+    ghost use Rattle.site_model.specs.Numbered.{names_in};
     ghost use Rattle.site_model.specs.Stages.{stage_number};
 
     ghost Value = { Draft };
 
     ghost view = { λ b. record { stage = stage_number b.stage; site = record { version = b.version; mode = b.mode; types = b.types.items; points = b.points.items; obstacles = b.obstacles.items; pairs = b.pairs.items }; corners = b.corners.items; missing = b.missing } };
 
-    ghost invariant = { λ b. IsBuilder (record { stage = stage_number b.stage; site = record { version = b.version; mode = b.mode; types = b.types.items; points = b.points.items; obstacles = b.obstacles.items; pairs = b.pairs.items }; corners = b.corners.items; missing = b.missing }) (vec_capacity b.corners) (vec_capacity b.obstacles) b.ruled.items };
+    ghost invariant = { λ b. IsBuilder (record { stage = stage_number b.stage; site = record { version = b.version; mode = b.mode; types = b.types.items; points = b.points.items; obstacles = b.obstacles.items; pairs = b.pairs.items }; corners = b.corners.items; missing = b.missing }) (vec_capacity b.corners) (vec_capacity b.obstacles) b.rules.items (names_in b.names.keys) };
 }
 
 /// The greatest coordinate, in metres.
@@ -97,9 +101,10 @@ impl SiteBuilder {
             mode,
             types: Vec::with_capacity(alloc, 8)?,
             points: Vec::with_capacity(alloc, 256)?,
+            names: IndexSet::with_capacity(alloc, 256)?,
             obstacles: Vec::with_capacity(alloc, 64)?,
             pairs: Vec::new(alloc),
-            ruled: unruled(alloc, 65_536)?,
+            rules: empty_table(alloc, 65_536)?,
             corners: Vec::new(alloc),
             missing: 0,
         })
@@ -172,9 +177,14 @@ impl SiteBuilder {
             Ok(point) => point,
             Err(code) => return Err(BuildFault::Refused(code)),
         };
-        if self.points.push(point).is_err() {
+        // Room is made for the point here, so that no name is kept without its point.
+        if self.points.reserve(1).is_err() {
             return Err(BuildFault::Memory);
         }
+        if add_name(self.alloc, &mut self.names, name).is_err() {
+            return Err(BuildFault::Memory);
+        }
+        self.points.push_reserved(point);
         self.stage = Stage::Points;
         Ok(())
     }
@@ -197,7 +207,7 @@ impl SiteBuilder {
         let Some(own_name) = Name::new(name) else {
             return Err(SiteCode::BadName);
         };
-        if has_name(self.points.as_slice(), name) {
+        if self.has_name(name) {
             return Err(SiteCode::SameName);
         }
         if has_place(self.points.as_slice(), at) {
@@ -319,7 +329,7 @@ impl SiteBuilder {
         if self.pairs.push(pair).is_err() {
             return Err(BuildFault::Memory);
         }
-        mark(&mut self.ruled, pair.a, pair.b);
+        enter(&mut self.rules, pair.a, pair.b, pair.rule);
         self.stage = Stage::Pairs;
         Ok(())
     }
@@ -344,16 +354,16 @@ impl SiteBuilder {
         if !is_name(b) {
             return Err(SiteCode::BadName);
         }
-        let Some(first) = number_of(self.points.as_slice(), a) else {
+        let Some(first) = self.number_of(a) else {
             return Err(SiteCode::UnknownName);
         };
-        let Some(second) = number_of(self.points.as_slice(), b) else {
+        let Some(second) = self.number_of(b) else {
             return Err(SiteCode::UnknownName);
         };
         if first == second {
             return Err(SiteCode::SamePair);
         }
-        if has_pair(self.ruled.as_slice(), first, second) {
+        if has_rule(self.rules.as_slice(), first, second) {
             return Err(SiteCode::SamePair);
         }
         Ok(Pair {
@@ -381,6 +391,7 @@ impl SiteBuilder {
             self.points,
             self.obstacles,
             self.pairs,
+            self.rules,
         ))
     }
 
@@ -425,36 +436,23 @@ impl SiteBuilder {
     {
         !self.types.is_empty() && self.missing == 0
     }
-}
 
-/// Whether the point has this name.
-fn is_named(point: &Point, name: &[u8]) -> bool
-    ensures { IsTrue result ↔ (point.now.name ≡ name.now) }
-{
-    point.name.as_slice() == name
-}
-
-/// The number of the point with this name.
-fn number_of(points: &[Point], name: &[u8]) -> Option<u32>
-    requires { length points.now ≤ 256 }
-    ensures { MatchOption result
-        (¬ Any (λ p. p.name ≡ name.now) points.now)
-        (λ number. (number < length points.now) × (name_from (slice_get points.now number) ≡ name.now)) }
-{
-    for (number, point) in points.iter().enumerate() {
-        if is_named(point, name) {
-            return Some(number as u32);
-        }
+    /// The number of the point with this name.
+    fn number_of(&self, name: &[u8]) -> Option<u32>
+        ensures { MatchOption result
+            (¬ HasNamed self.now name.now)
+            (λ number. (number < length self.now.site.points) × (name_of self.now.site number ≡ name.now)) }
+    {
+        let number = number_in(&self.names, name)?;
+        Some(number as u32)
     }
-    None
-}
 
-/// Whether some point has this name.
-fn has_name(points: &[Point], name: &[u8]) -> bool
-    requires { length points.now ≤ 256 }
-    ensures { IsTrue result ↔ Any (λ p. p.name ≡ name.now) points.now }
-{
-    number_of(points, name).is_some()
+    /// Whether some point has this name.
+    fn has_name(&self, name: &[u8]) -> bool
+        ensures { IsTrue result ↔ HasNamed self.now name.now }
+    {
+        self.number_of(name).is_some()
+    }
 }
 
 /// Whether the bytes are a name.
@@ -514,44 +512,6 @@ fn complete(alloc: Global, obstacles: &mut Vec<Obstacle>, corners: &mut Vec<Plac
 {
     let all = replace(corners, Vec::new(alloc));
     obstacles.push_reserved(Obstacle::new(all));
-}
-
-/// A table of this many marks, none of which is set.
-fn unruled(alloc: Global, size: usize) -> Result<Vec<bool>, AllocError>
-    ensures size { IfOk result (λ ruled. length ruled.items ≡ size) }
-    ensures unset { IfOk result (λ ruled. All (λ is_ruled. is_ruled ≡ false) ruled.items) }
-{
-    vec![in alloc; false; size]
-}
-
-/// The place of two points in a table that has 256 points in a row.
-fn pair_place(a: u32, b: u32) -> usize
-    requires first { a < 256 }
-    requires second { b < 256 }
-    ensures { result ≡ pair_place a b }
-{
-    a as usize * 256 + b as usize
-}
-
-/// Whether two points are marked.
-fn has_pair(ruled: &[bool], a: u32, b: u32) -> bool
-    requires size { length ruled.now ≡ 65536 }
-    requires first { a < 256 }
-    requires second { b < 256 }
-    ensures { result ≡ slice_index_or ruled.now (pair_place a b) false }
-{
-    ruled[pair_place(a, b)]
-}
-
-/// Marks two points, in either order.
-fn mark(ruled: &mut Vec<bool>, a: u32, b: u32)
-    requires size { length ruled.old.items ≡ 65536 }
-    requires first { a < 256 }
-    requires second { b < 256 }
-    ensures { ruled.new.items ≡ slice_set (slice_set ruled.old.items (pair_place a b) true) (pair_place b a) true }
-{
-    ruled[pair_place(a, b)] = true;
-    ruled[pair_place(b, a)] = true;
 }
 
 /// Whether some point stands at this place.

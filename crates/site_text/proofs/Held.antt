@@ -10,12 +10,12 @@ use Rattle.cable_text.proofs.Reading.{spelling-number}
 use Rattle.site_text.specs.Item.{held, ReadsAs}
 
 -- a number of 128 bits, but for the least, is held as it is
-held_same : (z : ℤ) → negsuc (2 ^ 127 - 1) ≤ℤ z → z ≤ℤ pos (2 ^ 127 - 1) → held z ≡ z
+pub held_same : (z : ℤ) → negsuc (2 ^ 127 - 1) ≤ℤ z → z ≤ℤ pos (2 ^ 127 - 1) → held z ≡ z
 held_same (pos n) low high = cond-true (leb n (2 ^ 127 - 1)) (pos n) (pos (2 ^ 127 - 1)) (le-leb n (2 ^ 127 - 1) (omega (arith, ints)))
 held_same (negsuc n) low high = cond-true (leb n (2 ^ 127 - 1) && true) (negsuc n) (pos (2 ^ 127 - 1)) (and_from (leb n (2 ^ 127 - 1)) true (le-leb n (2 ^ 127 - 1) (omega (arith, ints))) refl)
 
 -- one beyond is held as the greatest
-held_beyond : (z : ℤ) → IsOutside (negsuc (2 ^ 127 - 1)) (pos (2 ^ 127 - 1)) z → held z ≡ pos (2 ^ 127 - 1)
+pub held_beyond : (z : ℤ) → IsOutside (negsuc (2 ^ 127 - 1)) (pos (2 ^ 127 - 1)) z → held z ≡ pos (2 ^ 127 - 1)
 held_beyond (pos n) (inl low) = absurd (omega (arith, ints))
 held_beyond (pos n) (inr high) = cond-false (leb n (2 ^ 127 - 1)) (pos n) (pos (2 ^ 127 - 1)) (lt-leb n (2 ^ 127 - 1) (omega (arith, ints)))
 held_beyond (negsuc n) (inl low) = cond-false (leb n (2 ^ 127 - 1) && true) (negsuc n) (pos (2 ^ 127 - 1)) (and_left (leb n (2 ^ 127 - 1)) true (lt-leb n (2 ^ 127 - 1) (omega (arith, ints))))

@@ -1,16 +1,25 @@
 -- The item of a line is what its words say.
-use Rattle.std.proofs.Common.{◌≡◌, ◌≢◌, ℕ, ◌⊎◌, inl, inr, List, [], ◌∷◌, not, ◌==◌, sym, ap, ◌∙◌, subst, All}
+use Rattle.std.proofs.Common.{◌≡◌, ◌≢◌, ℕ, suc, ◌⊎◌, inl, inr, List, [], ◌∷◌, length, true, not, ◌==◌, refl, sym, ap, ◌∙◌, subst, All}
 use Rattle.std.specs.List.{AllPass}
 use Rattle.std.proofs.lemmas.List.Elements.{All-head, All-tail, All-nil, All-cons}
 use Rattle.cable_definitions.specs.declared.site.Version.{Version}
 use Rattle.cable_definitions.specs.Text.{IsWord, HasNoNewline, Whole}
 use Rattle.cable_definitions.specs.Items.{RawItem, Stray as AStray, HasWords, IsLineOf, IsItemOf}
 use Rattle.site_text.specs.declared.item.Item.{Item}
-use Rattle.site_text.specs.Words.{parts}
+use Rattle.site_text.specs.Words.{parts, are_fields}
 use Rattle.site_text.specs.Item.{AreFull, IsSaid, IsItemOfLine}
 use Rattle.site_text.proofs.Splitting.{words-parts, parts-words, parts_plain}
-use Rattle.site_text.proofs.PointWords.{fields_of_words}
 use Rattle.site_text.proofs.Saying.{says_some}
+
+-- a word counts as one field
+full_field : (n : ℕ) (w : List ℕ) (ws : List (List ℕ)) → w ≢ [] → are_fields (suc n) (w ∷ ws) ≡ are_fields n ws
+full_field n [] ws h = absurd (h refl)
+full_field n (b ∷ bs) ws h = refl
+
+-- words are so many fields
+fields_of_words : (ws : List (List ℕ)) → All IsWord ws → are_fields (length ws) ws ≡ true
+fields_of_words [] h = refl
+fields_of_words (w ∷ ws) h = full_field (length ws) w ws (All-head IsWord w ws h).not_empty ∙ fields_of_words ws (All-tail IsWord w ws h)
 
 -- the parts of a line's text are words where none is empty
 parts_words : (text : List ℕ) → HasNoNewline text → AreFull (parts text) → All IsWord (parts text)

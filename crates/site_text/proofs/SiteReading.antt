@@ -204,6 +204,22 @@ line_at d f bytes after item at adds = by_piece at.piece at.next at.item_is
     by_piece CutLine next s = not_it Unended s (λ a. a)
     by_piece NoLine next s = not_it Missing s (λ a. a)
 
+-- what stays true of the site so far with a good item before the end
+pub record GoesOn (d : Draft) : Type 0 where
+  pub draft : IsDraft d
+  pub tidy : Tidy d
+  pub before_end : d.stage ≤ 5
+
+pub goes_on : (d f : Draft) (bytes after : List ℕ) (item : RawItem) → GoesOn d → IsItemAt d.site.version bytes item after → IsGood d item → Adds d item f → item ≢ TheEnd → GoesOn f
+goes_on d f bytes after item h at good adds other =
+    let l = line_at d f bytes after item at adds in
+    let later = IsDraft-adds d f item h.draft (fits d item l.ws l.says) good adds in
+    record { draft = later; tidy = (item_step d f item l.ws h.draft later h.tidy good adds l.says other).tidy; before_end = stays d f item h.before_end adds other }
+
+-- nothing was read yet
+pub begins : GoesOn empty_draft
+begins = record { draft = IsDraft-empty; tidy = tidy_begin empty_draft (omega arith) refl refl refl; before_end = omega arith }
+
 -- nothing good follows the end
 ended : (d f : Draft) (item : RawItem) → d.stage ≡ 6 → IsGood d item → Adds d item f → ⊥
 ended d f (AVersion v) six good adds = let s = eqb-true d.stage 0 (stands d (AVersion v) good) in omega arith

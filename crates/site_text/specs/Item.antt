@@ -44,32 +44,36 @@ abbrev pub held_number : Option ℤ → Option ℤ
 held_number None = None
 held_number (Some z) = Some (held z)
 
--- the kind of a point with its numbers as they are held
-abbrev pub held_kind : RawKind → RawKind
-held_kind (ATurbine power) = ATurbine (held_number power)
-held_kind (ASubstation feeders power) = ASubstation (held_number feeders) (held_number power)
-held_kind ABend = ABend
+-- the kind of a point with each of its numbers changed so
+abbrev pub map_kind : (Option ℤ → Option ℤ) → RawKind → RawKind
+map_kind f (ATurbine power) = ATurbine (f power)
+map_kind f (ASubstation feeders power) = ASubstation (f feeders) (f power)
+map_kind f ABend = ABend
 
--- the rule of a pair with its number as it is held
-abbrev pub held_rule : RawRule → RawRule
-held_rule (ACharge amount) = ACharge (held_number amount)
-held_rule AClosing = AClosing
+-- the rule of a pair with its number changed so
+abbrev pub map_rule : (Option ℤ → Option ℤ) → RawRule → RawRule
+map_rule f (ACharge amount) = ACharge (f amount)
+map_rule f AClosing = AClosing
+
+-- an item with each of its numbers changed so
+abbrev pub map_item : (Option ℤ → Option ℤ) → RawItem → RawItem
+map_item f (AVersion v) = AVersion (f v)
+map_item f (AMode m) = AMode m
+map_item f (AType capacity price loss) = AType (f capacity) (f price) (f loss)
+map_item f (APoint name x y kind) = APoint name (f x) (f y) (map_kind f kind)
+map_item f (AnObstacle k) = AnObstacle (f k)
+map_item f (ACorner x y) = ACorner (f x) (f y)
+map_item f (APair a b rule) = APair a b (map_rule f rule)
+map_item f TheEnd = TheEnd
+map_item f Misshapen = Misshapen
+map_item f AStray = AStray
+map_item f Unended = Unended
+map_item f Missing = Missing
+map_item f Overlong = Overlong
 
 -- an item with its numbers as they are held
 abbrev pub held_item : RawItem → RawItem
-held_item (AVersion v) = AVersion (held_number v)
-held_item (AMode m) = AMode m
-held_item (AType capacity price loss) = AType (held_number capacity) (held_number price) (held_number loss)
-held_item (APoint name x y kind) = APoint name (held_number x) (held_number y) (held_kind kind)
-held_item (AnObstacle k) = AnObstacle (held_number k)
-held_item (ACorner x y) = ACorner (held_number x) (held_number y)
-held_item (APair a b rule) = APair a b (held_rule rule)
-held_item TheEnd = TheEnd
-held_item Misshapen = Misshapen
-held_item AStray = AStray
-held_item Unended = Unended
-held_item Missing = Missing
-held_item Overlong = Overlong
+held_item item = map_item held_number item
 
 -- the word is read as this number, as it is held
 pub record ReadsAs (word : List ℕ) (number : Option ℤ) : Type 0 where

@@ -4,7 +4,9 @@ pub mod Words
 pub mod Keyword
 -- the fields of a line that is written
 pub mod Line
--- the parts of a site that are read so far
-pub mod Plain
 -- the items of lines as the reader holds them
 pub mod Item
+-- what a line gives the builder of a site
+pub mod Adding
+-- how a site is read from lines
+pub mod Reading

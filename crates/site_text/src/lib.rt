@@ -1,19 +1,18 @@
 //! Sites in line form, read and written.
 #![tactic(auto)]
 
-mod decode;
+mod add;
 mod item;
 mod keyword;
 mod law;
 mod line;
-mod plain;
-mod point;
+mod read;
 mod words;
 mod write;
 
 pub use law::good_items_are_a_site;
 pub use line::{Field, push_line};
-pub use plain::{PlainFault, read_plain_site};
+pub use read::read_site;
 pub use write::{name_of, write_site};
 
 #[cfg(test)]

@@ -1,14 +1,11 @@
-use Rattle.std.proofs.Common.{◌≡◌, ◌≤◌, ◌↔◌, List, Some, IsTrue, ◌∙◌, sym, ap, subst, arith, fold, max}
-use Rattle.std.specs.Prelude.{All, find}
+use Rattle.std.proofs.Common.{◌≤◌, ◌↔◌, List, IsTrue, ◌∙◌, sym, ap, subst, arith, fold, max}
+use Rattle.std.specs.Prelude.{All}
 use Rattle.std.proofs.lemmas.Bool.{false≢true}
 use Rattle.cable_definitions.specs.declared.place.Place.{Place}
 use Rattle.cable_definitions.specs.declared.site.CableType.{CableType}
-use Rattle.cable_definitions.specs.declared.site.Pair.{Pair}
-use Rattle.cable_definitions.specs.declared.site.PairRule.TheVariants.{Closed}
 use Rattle.cable_definitions.specs.declared.site.Point.{Point}
 use Rattle.cable_definitions.specs.Plane.{edges}
-use Rattle.cable_definitions.specs.Site.{joins}
-use Rattle.cable_definitions.specs.Arcs.{rule_from, power_of_kind, largest_capacity}
+use Rattle.cable_definitions.specs.Arcs.{power_of_kind, largest_capacity}
 use Rattle.site_model.specs.Passing.{PassesNone, IsClear}
 use Rattle.site_model.proofs.Passed.{denied}
 use Rattle.site_model.proofs.Candidates.{candidate_if, candidate_passes, point_is}
@@ -23,12 +20,11 @@ returns c =
     let to = c.index-points-to.result in
     let from_is = point_is s c.points.result.now p from c.points.ensures.value c.requires.from c.index-points-from.is in
     let to_is = point_is s c.points-2.result.now q to c.points-2.ensures.value c.requires.to c.index-points-to.is in
-    let closed = subst (λ (pairs : List Pair). IsTrue c.is_closed.result ↔ (rule_from (find (joins p q) pairs) ≡ Some Closed)) c.pairs.ensures.value c.is_closed.ensures in
     let largest = c.largest_capacity.ensures ∙ ap (λ (types : List CableType). fold (λ most t. max most t.capacity) 0 types) c.types.ensures.value in
     let bearable : power_of_kind from.kind ≤ largest_capacity s = omega (arith, largest, c.power_of.ensures, c.if-power_of-largest_capacity.false) in
     let passes = subst (λ (points : List Point). PassesNone points p q from.at to.at) c.points-3.ensures.value (c.passes_none.ensures.0 c.if-not-passes_none.false) in
     let clear = subst (λ (obstacles : List (List Place)). IsTrue c.is_clear.result ↔ All (λ corners. IsClear from.at to.at (edges corners)) obstacles) c.obstacles.ensures.value c.is_clear.ensures in
-    candidate_if s p q from to c.is_clear.result from_is to_is (sym c.is_substation.ensures ∙ c.if-is_substation.false) c.if-from-to.false (denied c.is_closed.result closed c.if-is_closed.false) bearable passes clear
+    candidate_if s p q from to c.is_clear.result from_is to_is (sym c.is_substation.ensures ∙ c.if-is_substation.false) c.if-from-to.false (denied c.is_closed.result c.is_closed.ensures c.if-is_closed.false) bearable passes clear
 
 pub returns-then-not-passes_none : goal.returns-then-not-passes_none
 returns-then-not-passes_none c =

@@ -48,6 +48,7 @@ invariant_of-self-then-self-gt0 c =
       corners_fit = omega (arith, ap length pushed, length_push c.self.inside.corners.items corner, c.push_reserved.ensures.capacity, c.encloses.ensures.capacity, c.self.invariant.corners_fit);
       obstacle_fits = λ h. c.self.invariant.obstacle_fits (omega arith);
       table = c.self.invariant.table;
+      numbered = c.self.invariant.numbered;
     }
 
 pub returns-then-self-gt0-clause-good : goal.returns-then-self-gt0-clause-good
@@ -112,6 +113,7 @@ invariant_of-self-2 c =
       corners_fit = omega (arith, ap length c.complete.ensures.corners);
       obstacle_fits = λ h. absurd (omega arith);
       table = c.self.invariant.table;
+      numbered = c.self.invariant.numbered;
     }
 
 pub returns-clause-good : goal.returns-clause-good

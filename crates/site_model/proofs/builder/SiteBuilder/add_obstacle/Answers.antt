@@ -18,4 +18,5 @@ invariant_of-self-2 c =
       corners_fit = omega (arith, corner_room, ap length c.clear.ensures.items, c.clear.ensures.capacity);
       obstacle_fits = λ h. omega (arith, obstacle_room, c.reserve.new.self.ok.0);
       table = c.self.invariant.table;
+      numbered = c.self.invariant.numbered;
     }

@@ -19,4 +19,5 @@ invariant_of-self-2 c =
       corners_fit = c.self.invariant.corners_fit;
       obstacle_fits = c.self.invariant.obstacle_fits;
       table = c.self.invariant.table;
+      numbered = c.self.invariant.numbered;
     }

@@ -1,6 +1,0 @@
-use Rattle.std.proofs.Common.{◌≡◌, ℕ, ◌<◌, get_or}
-use Rattle.cable_definitions.specs.declared.site.Point.{Point}
-use Rattle.site_model.proofs.builder.number_of.Given as goal
-
-abbrev pub invariant-loop-number : goal.invariant-loop-number
-invariant-loop-number l = (k : ℕ) (d : Point) → k < l.number → (get_or l.points k d).name ≡ l.name → ⊥
