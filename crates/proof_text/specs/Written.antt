@@ -23,3 +23,7 @@ IsClaimOf s Infeasible = Unit {0}
 -- the line with the number of cables, and the lines of the cables
 abbrev pub layout_text : Site → List Cable → List ℕ
 layout_text s cables = line (codes "layout" ∷ decimal (length cables) ∷ []) ++ concat (map (cable_line s) cables)
+
+-- a space and a number
+abbrev pub spaced_number : ℕ → List ℕ
+spaced_number n = 32 ∷ decimal n

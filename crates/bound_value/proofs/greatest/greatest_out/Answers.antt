@@ -1,0 +1,38 @@
+use Rattle.std.proofs.Common.{◌∙◌, ◌+◌, ℕ, fold, drop, arith, sym, ap}
+use Rattle.std.proofs.lemmas.Option.{slice_get_within}
+use Rattle.layout_laws.proofs.Typing.{all-at}
+use Rattle.cable_definitions.specs.declared.cable.Arc.{Arc}
+use Rattle.cable_definitions.specs.Arcs.{IsCandidate}
+use Rattle.site_model.specs.Best.{most_cost}
+use Rattle.bound_value.proofs.GreatestCosts.{with_arc, arcs_begin, arcs_more, arcs_all, ord_max-nat, max_small}
+use Rattle.bound_value.proofs.greatest.greatest_out.Goals as goal
+
+pub loop-number-init : goal.loop-number-init
+loop-number-init c = record { rest = arcs_begin c.args.site.now c.args.arcs.now c.args.p c.out_of-first.result.0 c.out_of-first.ensures.first; small = omega arith }
+
+pub greatest_of_types-requires-clause-from : goal.greatest_of_types-requires-clause-from
+greatest_of_types-requires-clause-from c =
+    let candidate = all-at (λ (a : Arc). IsCandidate c.args.site.now a.from a.to) c.args.arcs.now c.loop-number.number c.get.result c.requires.candidates c.get.ensures in
+    slice_get_within c.args.site.now.points c.get.result.from candidate.from candidate.from_is
+
+pub greatest_of_types-requires-clause-to : goal.greatest_of_types-requires-clause-to
+greatest_of_types-requires-clause-to c =
+    let candidate = all-at (λ (a : Arc). IsCandidate c.args.site.now a.from a.to) c.args.arcs.now c.loop-number.number c.get.result c.requires.candidates c.get.ensures in
+    slice_get_within c.args.site.now.points c.get.result.to candidate.to candidate.to_is
+
+pub loop-number-preserved : goal.loop-number-preserved
+loop-number-preserved c =
+    let s = c.args.site.now in
+    let arcs = c.args.arcs.now in
+    let cost = c.greatest_of_types.result in
+    let greater = c.max-most.ensures ∙ ord_max-nat c.loop-number.most cost in
+    record {
+      rest = ap (λ (m : ℕ). fold (with_arc s c.args.p) m (drop (c.loop-number.number + 1) arcs)) greater
+          ∙ (arcs_more s arcs c.args.p c.out_of-first.result.0 c.out_of-first.result.1 c.loop-number.number c.loop-number.most cost c.get.result c.out_of-first.ensures.first c.out_of-first.ensures.past (omega arith) c.loop-number-test.true c.get.ensures c.greatest_of_types.ensures.greatest
+          ∙ c.loop-number.invariant.rest);
+      small = max_small c.max-most.result c.loop-number.most cost most_cost greater c.loop-number.invariant.small c.greatest_of_types.ensures.most;
+    }
+
+pub returns-clause-greatest : goal.returns-clause-greatest
+returns-clause-greatest c =
+    sym (arcs_all c.args.site.now c.args.arcs.now c.args.p c.out_of-first.result.1 c.loop-number.number c.loop-number.most c.out_of-first.ensures.past c.loop-number-test.false) ∙ c.loop-number.invariant.rest

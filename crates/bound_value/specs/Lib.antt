@@ -1,0 +1,2 @@
+-- the least cost of a choice
+pub mod Least

@@ -1,0 +1,12 @@
+-- a tree as its nodes, and the nodes that a work leaves
+pub mod State
+-- the nodes that the program keeps
+pub mod Nodes
+-- the arcs that a node marks used, gathered
+pub mod Used
+-- reasons why a node is dead
+pub mod Reasons
+-- the least and the greatest that a row counts an arc as
+pub mod Extents
+-- cables with the cheapest types at known loads
+pub mod Typed

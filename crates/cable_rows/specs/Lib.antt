@@ -1,0 +1,4 @@
+-- the rows that a pool keeps
+pub mod Pool
+-- one question on the form of a row
+pub mod Form

@@ -1,0 +1,228 @@
+-- What a reader finds by reading a line: a cause, or none.
+use Rattle.std.proofs.Common.{◌≡◌, ◌≢◌, ℕ, zero, suc, ◌≤◌, ◌<◌, ℤ, List, [], length, false, refl, sym, ap, ◌∙◌, subst, arith, All}
+use Rattle.std.specs.Prelude.{IsTrue}
+use Rattle.std.proofs.lemmas.Bool.{not_from_false}
+use Rattle.std.proofs.lemmas.List.{length-map}
+use Rattle.cable_definitions.specs.declared.row.RowKind.{RowKind}
+use Rattle.cable_definitions.specs.declared.claim.Cause.{Cause}
+use Rattle.cable_definitions.specs.declared.claim.Cause.TheVariants.{Line, Form, Site as SiteCause, Row, Limit, Node, Weight, Arc, Dead, Full, Layout, Verdict}
+use Rattle.cable_definitions.specs.Site.{Site}
+use Rattle.cable_definitions.specs.Text.{IsWord, words, Piece, Whole, LongLine, CutLine, NoLine}
+use Rattle.cable_definitions.specs.Numeral.{spelling as spelled}
+use Rattle.cable_definitions.specs.Refusal.{ASplit, AStop, AFull, ADeadRow, ADeadPair, ADeadLoad, ADeadLoop, ADeadPower, ADeadCeiling, AnOptimal, AGap, AnOpen, AnInfeasible, DocLine, BudgetLine, RowLine, WorkLine, WeightLine, ActLine, LayoutLine, CableLine, ClaimLine, EndLine, spelling, HasMembers, IsSpelled, IsWithinLimits, Phase, AtBudget, AtItem, AtWeights, AtCables, AtLast, Past, AtJudged, AtAnyCables, Reader, is_allowed, may_end, IsLineAt, NamesHold, IsBroken, IsFoundByReading, IsLeastCause, IsReadable, cause_number}
+use Rattle.site_text.proofs.Splitting.{words_injective}
+use Rattle.proof_text.specs.Words.{IsCut}
+use Rattle.proof_text.specs.Judged.{IsStanding, IsGood, IsBad}
+use Rattle.proof_text.proofs.Standing.{one_member}
+use Rattle.proof_text.proofs.Decoding.{same_line, some_words}
+
+-- ---- lines and their words
+-- a text spells one line
+pub one_line : (text : List ℕ) (l m : DocLine) → IsSpelled text l → IsSpelled text m → l ≡ m
+one_line text l m h k = same_line l m (words_injective (spelling l) (spelling m) (some_words l) (some_words m) h.are_words k.are_words (sym h.text_is ∙ k.text_is))
+
+-- a row that may stand somewhere has one member
+row_few : (phase : Phase) (kind : RowKind) (members : List ℤ) → IsTrue (is_allowed phase (RowLine kind members)) → HasMembers (RowLine kind members) → length (spelling (RowLine kind members)) ≤ 4
+row_few AtBudget kind members a h = absurd (cc)
+row_few AtItem kind members a h = omega (arith, one_member kind members a h, length-map members spelled)
+row_few (AtWeights v zero weights) kind members a h = absurd (cc)
+row_few (AtWeights v (suc k) weights) kind members a h = absurd (cc)
+row_few (AtCables zero) kind members a h = absurd (cc)
+row_few (AtCables (suc k)) kind members a h = absurd (cc)
+row_few AtLast kind members a h = absurd (cc)
+row_few Past kind members a h = absurd (cc)
+row_few AtJudged kind members a h = absurd (cc)
+row_few (AtAnyCables zero) kind members a h = absurd (cc)
+row_few (AtAnyCables (suc k)) kind members a h = absurd (cc)
+
+-- a line that may stand somewhere has at most four words
+few_words : (phase : Phase) (l : DocLine) → IsTrue (is_allowed phase l) → HasMembers l → length (spelling l) ≤ 4
+few_words phase (BudgetLine n) a h = omega arith
+few_words phase (RowLine kind members) a h = row_few phase kind members a h
+few_words phase (WorkLine v k) a h = omega arith
+few_words phase (WeightLine r w) a h = omega arith
+few_words phase (ActLine (ASplit c)) a h = omega arith
+few_words phase (ActLine AStop) a h = omega arith
+few_words phase (ActLine AFull) a h = omega arith
+few_words phase (ActLine (ADeadRow r)) a h = omega arith
+few_words phase (ActLine (ADeadPair c b)) a h = omega arith
+few_words phase (ActLine (ADeadLoad p)) a h = omega arith
+few_words phase (ActLine (ADeadLoop p)) a h = omega arith
+few_words phase (ActLine (ADeadPower p)) a h = omega arith
+few_words phase (ActLine ADeadCeiling) a h = omega arith
+few_words phase (LayoutLine k) a h = omega arith
+few_words phase (CableLine c b t) a h = omega arith
+few_words phase (ClaimLine (AnOptimal c)) a h = omega arith
+few_words phase (ClaimLine (AGap c b)) a h = omega arith
+few_words phase (ClaimLine (AnOpen b name)) a h = omega arith
+few_words phase (ClaimLine AnInfeasible) a h = omega arith
+few_words phase EndLine a h = omega arith
+
+-- the words that were cut stand as the line that the text is
+pub standing_of : (phase : Phase) (text : List ℕ) (ws : List (List ℕ)) (l : DocLine) → IsCut text ws → IsLineAt phase text l → IsStanding phase ws l
+standing_of phase text ws l cut h = record {
+  words_are = sym (cut.no_others (spelling l) (some_words l) (few_words phase l h.allowed h.spelled.members) (record { are_words = h.spelled.are_words; text_is = h.spelled.text_is }));
+  members = h.spelled.members;
+  allowed = h.allowed;
+}
+
+-- and the text is the line as which they stand
+pub line_of : (phase : Phase) (text : List ℕ) (ws : List (List ℕ)) (l : DocLine) → IsCut text ws → IsStanding phase ws l → IsLineAt phase text l
+line_of phase text ws l cut h =
+    let some : ws ≢ [] = λ e. some_words l (sym h.words_are ∙ e) in
+    let of = cut.of_words some in
+    record { spelled = record { are_words = subst (All IsWord) h.words_are of.are_words; text_is = of.text_is ∙ ap words h.words_are; members = h.members }; allowed = h.allowed }
+
+-- ---- the least cause
+-- the text of a whole line
+abbrev text_of : Piece → List ℕ
+text_of (Whole text) = text
+text_of LongLine = []
+text_of CutLine = []
+text_of NoLine = []
+
+line_moved : (phase : Phase) (text other : List ℕ) (l : DocLine) → Whole text ≡ Whole other → IsLineAt phase text l → IsLineAt phase other l
+line_moved phase text other l e h = let P : List ℕ → Type 0 = λ t. IsLineAt phase t l in subst P (ap text_of e) h
+
+-- no cause comes before the first
+none_before_line : (c : Cause) → cause_number c < 1 → ⊥
+none_before_line Line h = absurd (omega (arith, h))
+none_before_line Form h = absurd (omega (arith, h))
+none_before_line SiteCause h = absurd (omega (arith, h))
+none_before_line Row h = absurd (omega (arith, h))
+none_before_line Limit h = absurd (omega (arith, h))
+none_before_line Node h = absurd (omega (arith, h))
+none_before_line Weight h = absurd (omega (arith, h))
+none_before_line Arc h = absurd (omega (arith, h))
+none_before_line Dead h = absurd (omega (arith, h))
+none_before_line Full h = absurd (omega (arith, h))
+none_before_line Layout h = absurd (omega (arith, h))
+none_before_line Verdict h = absurd (omega (arith, h))
+
+-- a line that is broken
+pub first_line : (s : Site) (r : Reader) (piece : Piece) → IsBroken r.phase piece → IsLeastCause (IsFoundByReading s r piece) Line
+first_line s r piece h = record { holds = h; least = λ c lt. absurd (none_before_line c lt) }
+
+pub first_missing : (s : Site) (r : Reader) → may_end r.phase ≡ false → IsLeastCause (IsFoundByReading s r NoLine) Line
+first_missing s r e = first_line s r NoLine (not_from_false (may_end r.phase) e)
+
+-- a whole line isn't broken, and no other cause comes before the second
+none_before_form : (s : Site) (r : Reader) (text : List ℕ) (c : Cause) → cause_number c < 2 → ¬ (IsFoundByReading s r (Whole text) c)
+none_before_form s r text Line h f = f
+none_before_form s r text Form h f = absurd (omega (arith, h))
+none_before_form s r text SiteCause h f = absurd (omega (arith, h))
+none_before_form s r text Row h f = absurd (omega (arith, h))
+none_before_form s r text Limit h f = absurd (omega (arith, h))
+none_before_form s r text Node h f = absurd (omega (arith, h))
+none_before_form s r text Weight h f = absurd (omega (arith, h))
+none_before_form s r text Arc h f = absurd (omega (arith, h))
+none_before_form s r text Dead h f = absurd (omega (arith, h))
+none_before_form s r text Full h f = absurd (omega (arith, h))
+none_before_form s r text Layout h f = absurd (omega (arith, h))
+none_before_form s r text Verdict h f = absurd (omega (arith, h))
+
+-- a line that may not stand there
+pub first_form : (s : Site) (r : Reader) (text : List ℕ) → ((l : DocLine) → ¬ (IsLineAt r.phase text l)) → IsLeastCause (IsFoundByReading s r (Whole text)) Form
+first_form s r text none = record { holds = (text, refl, none); least = none_before_form s r text }
+
+-- before the limits nothing is found of a line that may stand there
+none_before_limit : (s : Site) (r : Reader) (text : List ℕ) (l : DocLine) → IsLineAt r.phase text l → (c : Cause) → cause_number c < 5 → ¬ (IsFoundByReading s r (Whole text) c)
+none_before_limit s r text l at Line h f = f
+none_before_limit s r text l at Form h f = f.2 l (line_moved r.phase text f.0 l f.1 at)
+none_before_limit s r text l at SiteCause h f = f
+none_before_limit s r text l at Row h f = f
+none_before_limit s r text l at Limit h f = absurd (omega (arith, h))
+none_before_limit s r text l at Node h f = absurd (omega (arith, h))
+none_before_limit s r text l at Weight h f = absurd (omega (arith, h))
+none_before_limit s r text l at Arc h f = absurd (omega (arith, h))
+none_before_limit s r text l at Dead h f = absurd (omega (arith, h))
+none_before_limit s r text l at Full h f = absurd (omega (arith, h))
+none_before_limit s r text l at Layout h f = absurd (omega (arith, h))
+none_before_limit s r text l at Verdict h f = absurd (omega (arith, h))
+
+-- a number beyond its limits
+pub first_limit : (s : Site) (r : Reader) (text : List ℕ) (l : DocLine) → IsLineAt r.phase text l → ¬ (IsWithinLimits l) → IsLeastCause (IsFoundByReading s r (Whole text)) Limit
+first_limit s r text l at none = record { holds = (text, l, refl, at, none); least = none_before_limit s r text l at }
+
+-- what is found of the line is found of it as it was read
+no_limit : (s : Site) (r : Reader) (text : List ℕ) (l : DocLine) → IsLineAt r.phase text l → IsWithinLimits l → ¬ (IsFoundByReading s r (Whole text) Limit)
+no_limit s r text l at limits f =
+    let moved = line_moved r.phase text f.0 l f.2 at in
+    f.4 (subst IsWithinLimits (one_line f.0 l f.1 moved.spelled f.3.spelled) limits)
+
+no_layout : (s : Site) (r : Reader) (text : List ℕ) (l : DocLine) → IsLineAt r.phase text l → NamesHold s r l → ¬ (IsFoundByReading s r (Whole text) Layout)
+no_layout s r text l at names f =
+    let moved = line_moved r.phase text f.0 l f.2 at in
+    f.4 (subst (λ m. NamesHold s r m) (one_line f.0 l f.1 moved.spelled f.3.spelled) names)
+
+-- before the names nothing is found of a line within its limits
+none_before_layout : (s : Site) (r : Reader) (text : List ℕ) (l : DocLine) → IsLineAt r.phase text l → IsWithinLimits l → (c : Cause) → cause_number c < 11 → ¬ (IsFoundByReading s r (Whole text) c)
+none_before_layout s r text l at limits Line h f = f
+none_before_layout s r text l at limits Form h f = f.2 l (line_moved r.phase text f.0 l f.1 at)
+none_before_layout s r text l at limits SiteCause h f = f
+none_before_layout s r text l at limits Row h f = f
+none_before_layout s r text l at limits Limit h f = no_limit s r text l at limits f
+none_before_layout s r text l at limits Node h f = f
+none_before_layout s r text l at limits Weight h f = f
+none_before_layout s r text l at limits Arc h f = f
+none_before_layout s r text l at limits Dead h f = f
+none_before_layout s r text l at limits Full h f = f
+none_before_layout s r text l at limits Layout h f = absurd (omega (arith, h))
+none_before_layout s r text l at limits Verdict h f = absurd (omega (arith, h))
+
+-- names that don't hold
+pub first_layout : (s : Site) (r : Reader) (text : List ℕ) (l : DocLine) → IsLineAt r.phase text l → IsWithinLimits l → ¬ (NamesHold s r l) → IsLeastCause (IsFoundByReading s r (Whole text)) Layout
+first_layout s r text l at limits none = record { holds = (text, l, refl, at, none); least = none_before_layout s r text l at limits }
+
+-- nothing is found of a line within its limits whose names hold
+pub readable : (s : Site) (r : Reader) (text : List ℕ) (l : DocLine) → IsLineAt r.phase text l → IsWithinLimits l → NamesHold s r l → IsReadable s r (Whole text) l
+readable s r text l at limits names = record { text = text; piece_is = refl; line_is = at; none_found = none }
+  where
+    none : (c : Cause) → ¬ (IsFoundByReading s r (Whole text) c)
+    none Line f = f
+    none Form f = f.2 l (line_moved r.phase text f.0 l f.1 at)
+    none SiteCause f = f
+    none Row f = f
+    none Limit f = no_limit s r text l at limits f
+    none Node f = f
+    none Weight f = f
+    none Arc f = f
+    none Dead f = f
+    none Full f = f
+    none Layout f = no_layout s r text l at names f
+    none Verdict f = f
+
+-- ---- the same of the words that were cut
+pub good_readable : (s : Site) (r : Reader) (phase : Phase) (text : List ℕ) (ws : List (List ℕ)) (l : DocLine) → r.phase ≡ phase → IsCut text ws → IsGood phase ws l → NamesHold s r l → IsReadable s r (Whole text) l
+good_readable s r phase text ws l e cut h names =
+    let P : Phase → Type 0 = λ p. IsLineAt p text l in
+    readable s r text l (subst P (sym e) (line_of phase text ws l cut h.standing)) h.limits names
+
+bad_here : (s : Site) (r : Reader) (text : List ℕ) (ws : List (List ℕ)) (cause : Cause) → IsCut text ws → IsBad r.phase ws cause → IsLeastCause (IsFoundByReading s r (Whole text)) cause
+bad_here s r text ws Line cut h = absurd h
+bad_here s r text ws Form cut h = first_form s r text (λ l at. h l (standing_of r.phase text ws l cut at))
+bad_here s r text ws SiteCause cut h = absurd h
+bad_here s r text ws Row cut h = absurd h
+bad_here s r text ws Limit cut h = first_limit s r text h.0 (line_of r.phase text ws h.0 cut h.1) h.2
+bad_here s r text ws Node cut h = absurd h
+bad_here s r text ws Weight cut h = absurd h
+bad_here s r text ws Arc cut h = absurd h
+bad_here s r text ws Dead cut h = absurd h
+bad_here s r text ws Full cut h = absurd h
+bad_here s r text ws Layout cut h = absurd h
+bad_here s r text ws Verdict cut h = absurd h
+
+pub bad_refused : (s : Site) (r : Reader) (phase : Phase) (text : List ℕ) (ws : List (List ℕ)) (cause : Cause) → r.phase ≡ phase → IsCut text ws → IsBad phase ws cause → IsLeastCause (IsFoundByReading s r (Whole text)) cause
+bad_refused s r phase text ws cause e cut h = let P : Phase → Type 0 = λ p. IsBad p ws cause in bad_here s r text ws cause cut (subst P (sym e) h)
+
+-- where the input may end, no line may stand
+pub no_line_past : (phase : Phase) (l : DocLine) → IsTrue (may_end phase) → ¬ (IsTrue (is_allowed phase l))
+no_line_past AtBudget l h a = cc
+no_line_past AtItem l h a = cc
+no_line_past (AtWeights v k weights) l h a = cc
+no_line_past (AtCables k) l h a = cc
+no_line_past AtLast l h a = cc
+no_line_past Past l h a = cc
+no_line_past AtJudged l h a = cc
+no_line_past (AtAnyCables zero) l h a = cc
+no_line_past (AtAnyCables (suc k)) l h a = cc

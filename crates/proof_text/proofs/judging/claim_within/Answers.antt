@@ -1,0 +1,16 @@
+use Rattle.std.proofs.Common.{subst}
+use Rattle.proof_text.specs.Said.{IsClaim}
+use Rattle.proof_text.proofs.Standing.{if_none}
+use Rattle.proof_text.proofs.Claims.{bad_optimal, bad_gap_first, bad_gap_second}
+use Rattle.proof_text.proofs.judging.claim_within.Goals as goal
+
+pub returns-in_err-sum_in-in-Optimal-clause-none : goal.returns-in_err-sum_in-in-Optimal-clause-none
+returns-in_err-sum_in-in-Optimal-clause-none c = if_none c.from_residual.result (λ raw h. bad_optimal c.in-Optimal.cost c.in_err-sum_in-in-Optimal.ensures.none raw (subst (λ a. IsClaim a raw) c.in-Optimal.is h))
+
+pub returns-in_err-cost-in-Gap-clause-none : goal.returns-in_err-cost-in-Gap-clause-none
+returns-in_err-cost-in-Gap-clause-none c =
+    if_none c.from_residual-in_err-cost-in-Gap.result (λ raw h. bad_gap_first c.in-Gap.cost c.in-Gap.bound c.in_err-cost-in-Gap.ensures.none raw (subst (λ a. IsClaim a raw) c.in-Gap.is h))
+
+pub returns-in_err-bound-in-Gap-clause-none : goal.returns-in_err-bound-in-Gap-clause-none
+returns-in_err-bound-in-Gap-clause-none c =
+    if_none c.from_residual-in_err-bound-in-Gap.result (λ raw h. bad_gap_second c.in-Gap.cost c.in-Gap.bound c.in_err-bound-in-Gap.ensures.none raw (subst (λ a. IsClaim a raw) c.in-Gap.is h))

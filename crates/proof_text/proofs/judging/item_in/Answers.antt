@@ -1,0 +1,29 @@
+use Rattle.std.proofs.Common.{[], ◌∷◌, pos, Some, refl}
+use Rattle.cable_definitions.specs.Items.{within}
+use Rattle.cable_definitions.specs.Refusal.{RowLine, WorkLine, LayoutLine}
+use Rattle.proof_text.specs.Words.{held}
+use Rattle.proof_text.proofs.Standing.{bad_one, bad_second, bad_row, row_standing, no_item}
+use Rattle.proof_text.proofs.judging.item_in.Goals as goal
+
+pub returns-in-None-clause-bad : goal.returns-in-None-clause-bad
+returns-in-None-clause-bad c =
+    let h = c.in-Some.ensures.some in
+    (RowLine c.in-Some.kind (h.0 ∷ []), row_standing (held c.args.words) c.in-Some.kind h.0 h.1, bad_row c.in-Some.kind c.last_member.result h.0 (c.last_member.ensures.field h.0) (c.in-None.ensures.none h.0 h.2))
+
+pub returns-in_default-count_in-clause-bad : goal.returns-in_default-count_in-clause-bad
+returns-in_default-count_in-clause-bad c =
+    let h = c.in-Some-numbers_after.ensures.some in
+    (WorkLine h.0 h.1, record { words_are = h.2; members = tt; allowed = refl }, λ w. bad_one (within (Some h.0) (pos 1) (pos 100001)) (within (Some h.1) (pos 0) (pos 0) ∷ []) (c.in_default-count_in.ensures.none h.0 h.3) w.0)
+
+pub returns-in-None-count_in-clause-bad : goal.returns-in-None-count_in-clause-bad
+returns-in-None-count_in-clause-bad c =
+    let h = c.in-Some-numbers_after.ensures.some in
+    (WorkLine h.0 h.1, record { words_are = h.2; members = tt; allowed = refl }, λ w. bad_second (within (Some h.0) (pos 1) (pos 100001)) (within (Some h.1) (pos 0) (pos 0)) [] (c.in-None-count_in.ensures.none h.1 h.4) w.0)
+
+pub returns-in-None-count_in-2-clause-bad : goal.returns-in-None-count_in-2-clause-bad
+returns-in-None-count_in-2-clause-bad c =
+    let h = c.in-Some-number_after.ensures.some in
+    (LayoutLine h.0, record { words_are = h.1; members = tt; allowed = refl }, λ w. bad_one (within (Some h.0) (pos 0) (pos 256)) [] (c.in-None-count_in-2.ensures.none h.0 h.2) w.0)
+
+pub returns-clause-bad : goal.returns-clause-bad
+returns-clause-bad c = no_item (held c.args.words) c.in_default.ensures.none c.in_default-numbers_after.ensures.none c.in_default-number_after.ensures.none

@@ -1,0 +1,8 @@
+use Rattle.cable_text.specs.Lines.{ahead}
+use Rattle.proof_text.proofs.Behind.{close_refused}
+use Rattle.proof_text.proofs.reading.read_close.Goals as goal
+
+pub returns-clause-refused : goal.returns-clause-refused
+returns-clause-refused g c =
+    close_refused c.read_end.result (ahead c.args.lines.now.pending (g.S.Source.left c.args.src.now)) (ahead c.read_last.new.lines.pending (g.S.Source.left c.read_last.new.src)) c.args.lines.now.lines c.read_last.new.lines.lines
+    c.in_default.ensures.reads c.in_default.ensures.lines c.read_end.ensures.refused

@@ -1,0 +1,89 @@
+-- What a reader of items holds, and what it does.
+use Rattle.std.specs.Prelude.{◌≡◌, ℕ, ◌+◌, ◌≤◌, ℤ, pos, List, [], ◌∷◌, length, map, codes, Option, Some, None, Result, Ok, Err, IsTrue}
+use Rattle.std.specs.Fmt.{decimal}
+use Rattle.cable_definitions.specs.declared.row.RowKind.{RowKind}
+use Rattle.cable_definitions.specs.declared.row.Act.{Act}
+use Rattle.cable_definitions.specs.Site.{Site}
+use Rattle.cable_definitions.specs.Tree.{RowItem, WorkItem}
+use Rattle.cable_definitions.specs.Text.{line, item_lines, act_line}
+use Rattle.cable_definitions.specs.Built.{is_built_kind, most_weights}
+use Rattle.cable_definitions.specs.Refusal.{DocLine, RowLine, WorkLine, WeightLine, ActLine, LayoutLine, RawAct, act_from, Reader, AtItem, AtWeights, AtCables}
+use Rattle.branch_tree.specs.declared.work.Work.{Work}
+use Rattle.cable_text.specs.Stream.{Gives}
+use Rattle.proof_text.specs.declared.fault.ItemFault.{ItemFault}
+use Rattle.proof_text.specs.declared.items.Next.{Next}
+use Rattle.proof_text.specs.declared.items.Next.TheVariants.{Row, Work as WorkNext, Layout}
+use Rattle.proof_text.specs.declared.items.Step.{Step}
+use Rattle.proof_text.specs.declared.items.Step.TheVariants.{Row as RowStep, Work as WorkStep, Layout as LayoutStep}
+use Rattle.proof_text.specs.declared.judging.ItemLine.{ItemLine}
+use Rattle.proof_text.specs.declared.judging.ItemLine.TheVariants.{Row as RowItemLine, Work as WorkItemLine, Layout as LayoutItemLine}
+use Rattle.proof_text.specs.Reading.{counted, ReadsTo, ReadsLineOf}
+
+-- the last row, the last work, and the fault that is kept
+pub record ItemsState : Type 0 where
+  pub kind : RowKind
+  pub members : List ℕ
+  pub work : Work
+  pub kept : Option ItemFault
+
+-- the line of each weight
+abbrev pub weight_lines : List (ℕ × ℤ) → List DocLine
+weight_lines weights = map (λ (r, w). WeightLine (pos r) w) weights
+
+-- the line of a row is read, of a kind that is read so far and with 1 to 256 members
+pub record ReadsRow (before after : Option (List ℕ)) (kind : RowKind) (members : List ℕ) : Type 0 where
+  pub reads : (s : Site) (r : Reader) → r.phase ≡ AtItem → ReadsLineOf s r before after (RowLine kind (map pos members))
+  pub text : Gives before after (item_lines (RowItem (record { kind = kind; members = members })))
+  pub some : 1 ≤ length members
+  pub most : length members ≤ 256
+  pub built : IsTrue (is_built_kind kind)
+
+-- the lines of a work are read, with no more weights than are read so far; `middle` is to come behind its weights
+pub record ReadsWork (before after : Option (List ℕ)) (node : ℕ) (weights : List (ℕ × ℤ)) (act : Act) : Type 0 where
+  pub middle : Option (List ℕ)
+  pub reads : (s : Site) (r : Reader) → r.phase ≡ AtItem → ReadsTo s r before middle (WorkLine (pos node) (pos (length weights)) ∷ weight_lines weights) (record r { phase = AtWeights node 0 weights })
+  pub raw : RawAct
+  pub act_is : act_from raw ≡ act
+  pub reads_act : (s : Site) (r : Reader) → r.phase ≡ AtWeights node 0 weights → ReadsLineOf s r middle after (ActLine raw)
+  pub text : Gives before after (item_lines (WorkItem node weights act))
+  pub first : 1 ≤ node
+  pub few : length weights ≤ most_weights
+
+-- the line with the number of cables is read
+pub record ReadsLayout (before after : Option (List ℕ)) (count : ℕ) : Type 0 where
+  pub reads : (s : Site) (r : Reader) → r.phase ≡ AtItem → ReadsTo s r before after (LayoutLine (pos count) ∷ []) (record r { phase = AtCables count })
+  pub text : Gives before after (line (codes "layout" ∷ decimal count ∷ []))
+  pub most : count ≤ 256
+
+-- what is read of an item without weights, or of the layout's line, and how many lines
+abbrev pub ReadsStep : Option (List ℕ) → Option (List ℕ) → ℕ → ℕ → Step → Type 0
+ReadsStep before after old new (RowStep kind member) = ReadsRow before after kind (member ∷ []) × (new ≡ counted old 1)
+ReadsStep before after old new (WorkStep node act) = ReadsWork before after node [] act × (new ≡ counted old 2)
+ReadsStep before after old new (LayoutStep count) = ReadsLayout before after count × (new ≡ counted old 1)
+
+-- what a call for the next item reads, how many lines, and what is held then
+abbrev pub ReadsNext : Option (List ℕ) → Option (List ℕ) → ℕ → ℕ → ItemsState → Result Next ItemFault → Type 0
+ReadsNext before after old new held (Ok Row) = ReadsRow before after held.kind held.members × (new ≡ counted old 1)
+ReadsNext before after old new held (Ok WorkNext) = ReadsWork before after held.work.node held.work.weights held.work.act × (new ≡ counted old (2 + length held.work.weights))
+ReadsNext before after old new held (Ok (Layout count)) = ReadsLayout before after count × (new ≡ counted old 1)
+ReadsNext before after old new held (Err fault) = Unit {0}
+
+-- the fault that is kept after such an answer
+abbrev pub kept_after : {A : Type 0} → Result A ItemFault → Option ItemFault
+kept_after (Ok a) = None
+kept_after (Err fault) = Some fault
+
+-- the first line of an item is read, or the layout's line
+abbrev pub ReadsItemLine : Option (List ℕ) → Option (List ℕ) → ItemLine → Type 0
+ReadsItemLine before after (RowItemLine kind member) = ReadsRow before after kind (member ∷ [])
+ReadsItemLine before after (WorkItemLine node) =
+    (1 ≤ node) × Gives before after (line (codes "work" ∷ decimal node ∷ decimal 0 ∷ []))
+    × ((s : Site) (r : Reader) → r.phase ≡ AtItem → ReadsTo s r before after (WorkLine (pos node) (pos 0) ∷ []) (record r { phase = AtWeights node 0 [] }))
+ReadsItemLine before after (LayoutItemLine count) = ReadsLayout before after count
+
+-- the line of an act is read
+pub record ReadsAct (before after : Option (List ℕ)) (act : Act) : Type 0 where
+  pub raw : RawAct
+  pub act_is : act_from raw ≡ act
+  pub reads : (s : Site) (r : Reader) (v : ℕ) → r.phase ≡ AtWeights v 0 [] → ReadsLineOf s r before after (ActLine raw)
+  pub text : Gives before after (act_line act)

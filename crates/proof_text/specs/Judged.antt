@@ -1,0 +1,39 @@
+-- What the words of a line say, with its numbers within their limits or not.
+use Rattle.std.specs.Prelude.{◌≡◌, ℕ, pos, nat_abs, List, [], ◌∷◌, IsTrue}
+use Rattle.cable_definitions.specs.declared.claim.Claim.{Claim}
+use Rattle.cable_definitions.specs.declared.claim.Claim.TheVariants.{Optimal, Gap, Infeasible}
+use Rattle.cable_definitions.specs.declared.claim.Cause.{Cause}
+use Rattle.cable_definitions.specs.declared.claim.Cause.TheVariants.{Form, Limit}
+use Rattle.cable_definitions.specs.Refusal.{DocLine, RowLine, WorkLine, LayoutLine, RawClaim, AnOptimal, AGap, AnOpen, AnInfeasible, Phase, spelling, HasMembers, is_allowed, IsWithinLimits}
+use Rattle.proof_text.specs.declared.judging.ItemLine.{ItemLine}
+use Rattle.proof_text.specs.declared.judging.ItemLine.TheVariants.{Row, Work, Layout}
+
+-- the words are a line that may stand there
+pub record IsStanding (phase : Phase) (ws : List (List ℕ)) (l : DocLine) : Type 0 where
+  pub words_are : ws ≡ spelling l
+  pub members : HasMembers l
+  pub allowed : IsTrue (is_allowed phase l)
+
+-- the words are a line that may stand there, with its numbers within their limits
+pub record IsGood (phase : Phase) (ws : List (List ℕ)) (l : DocLine) : Type 0 where
+  pub standing : IsStanding phase ws l
+  pub limits : IsWithinLimits l
+
+-- the words are no line that may stand there, or one with a number beyond its limits
+abbrev pub IsBad : Phase → List (List ℕ) → Cause → Type 0
+IsBad phase ws Form = (l : DocLine) → ¬ (IsStanding phase ws l)
+IsBad phase ws Limit = (l : DocLine) × IsStanding phase ws l × (¬ (IsWithinLimits l))
+IsBad phase ws cause = ⊥
+
+-- the line of an item
+abbrev pub item_line : ItemLine → DocLine
+item_line (Row kind member) = RowLine kind (pos member ∷ [])
+item_line (Work node) = WorkLine (pos node) (pos 0)
+item_line (Layout count) = LayoutLine (pos count)
+
+-- the claim of a verdict that names no turbine
+abbrev pub claim_from : RawClaim → Claim
+claim_from (AnOptimal c) = Optimal (nat_abs c)
+claim_from (AGap c b) = Gap (nat_abs c) (nat_abs b)
+claim_from (AnOpen b name) = Infeasible
+claim_from AnInfeasible = Infeasible

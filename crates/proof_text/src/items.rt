@@ -1,0 +1,272 @@
+//! The budget and the items of a document.
+
+ghost use Rattle.std.specs.Prelude.{◌≡◌, ◌≤◌, ◌∷◌, [], pos, codes, length, map, Some, None, Err, OnOk, IfOk, IfSome, IfNone, ℕ};
+ghost use Rattle.std.specs.Fmt.{decimal};
+ghost use Rattle.cable_definitions.specs.Site.{Site as SiteValue};
+ghost use Rattle.cable_definitions.specs.Command.{IsBudget};
+ghost use Rattle.cable_definitions.specs.Text.{line};
+ghost use Rattle.cable_definitions.specs.Refusal.{Reader, BudgetLine, AtBudget, AtItem, AtWeights, RawAct, ActLine, act_from};
+ghost use Rattle.cable_text.specs.Stream.{Rose, Gives};
+ghost use Rattle.cable_text.specs.Lines.{ahead};
+ghost use Rattle.proof_text.specs.Items.{ReadsItemLine, ReadsAct, ReadsStep, ReadsNext, kept_after};
+ghost use Rattle.proof_text.specs.Reading.{counted, ReadsTo, ReadsLineOf, RefusedAfter, IfRefused, IfRead};
+
+use crate::fault::ItemFault;
+use crate::judging::{ItemLine, act_in, budget_in, item_in};
+use crate::reading::{next_line, refused};
+use crate::words::words_of;
+use bound_value::Weights;
+use branch_tree::Work;
+use cable_definitions::row::{Act, RowKind};
+use cable_text::{Lines, Source};
+use std::alloc::{AllocError, Global};
+use std::marker::Model;
+
+/// What was read next: a row or a work, which the reader holds, or the line `layout K`.
+#[derive(Clone, Copy, Debug, PartialEq, Eq)]
+pub enum Next {
+    Row,
+    Work,
+    Layout(u32),
+}
+
+/// A row with its one member, a work without weights, or the layout's number of cables.
+#[derive(Clone, Copy)]
+pub enum Step {
+    Row(RowKind, u32),
+    Work(u32, Act),
+    Layout(u32),
+}
+
+/// Reads the line `budget N`.
+fn read_budget<S: Source>(lines: &mut Lines, src: &mut S) -> Result<u32, ItemFault>
+    requires { lines.old.kept ≡ None }
+    ensures reads { IfOk result (λ n. (s : SiteValue) (r : Reader) → r.phase ≡ AtBudget
+        → ReadsTo s r (ahead lines.old.pending (S.left src.old)) (ahead lines.new.pending (S.left src.new)) (BudgetLine (pos n) ∷ []) (record r { phase = AtItem; budget = n })) }
+    ensures text { IfOk result (λ n. Gives (ahead lines.old.pending (S.left src.old)) (ahead lines.new.pending (S.left src.new)) (line (codes "budget" ∷ decimal n ∷ []))) }
+    ensures range { IfOk result (λ n. IsBudget n) }
+    ensures kept { OnOk result (lines.new.kept ≡ None) }
+    ensures lines { OnOk result (lines.new.lines ≡ counted lines.old.lines 1) }
+    ensures refused { IfRefused result (λ refusal. (s : SiteValue) (r : Reader) → r.phase ≡ AtBudget
+        → RefusedAfter s r (ahead lines.old.pending (S.left src.old)) lines.old.lines refusal) }
+    ensures read { IfRead result (Rose (S.faults src.old) (S.faults src.new)) }
+    ensures count { S.faults src.old ≤ S.faults src.new }
+{
+    if let Err(fault) = next_line(lines, src) {
+        return Err(fault);
+    }
+    match budget_in(words_of(lines.text())) {
+        Ok(budget) => Ok(budget),
+        Err(cause) => Err(refused(lines, cause)),
+    }
+}
+
+/// Reads the line of a row, the first line of a work, or the layout's line.
+fn read_item<S: Source>(lines: &mut Lines, src: &mut S) -> Result<ItemLine, ItemFault>
+    requires { lines.old.kept ≡ None }
+    ensures reads { IfOk result (λ item. ReadsItemLine (ahead lines.old.pending (S.left src.old)) (ahead lines.new.pending (S.left src.new)) item) }
+    ensures kept { OnOk result (lines.new.kept ≡ None) }
+    ensures number { OnOk result (lines.new.number ≡ lines.new.lines) }
+    ensures lines { OnOk result (lines.new.lines ≡ counted lines.old.lines 1) }
+    ensures refused { IfRefused result (λ refusal. (s : SiteValue) (r : Reader) → r.phase ≡ AtItem
+        → RefusedAfter s r (ahead lines.old.pending (S.left src.old)) lines.old.lines refusal) }
+    ensures read { IfRead result (Rose (S.faults src.old) (S.faults src.new)) }
+    ensures count { S.faults src.old ≤ S.faults src.new }
+{
+    if let Err(fault) = next_line(lines, src) {
+        return Err(fault);
+    }
+    match item_in(words_of(lines.text())) {
+        Ok(item) => Ok(item),
+        Err(cause) => Err(refused(lines, cause)),
+    }
+}
+
+/// Reads the line of an act.
+fn read_act<S: Source>(lines: &mut Lines, src: &mut S) -> Result<Act, ItemFault>
+    requires { lines.old.kept ≡ None }
+    ensures reads { IfOk result (λ act. ReadsAct (ahead lines.old.pending (S.left src.old)) (ahead lines.new.pending (S.left src.new)) act) }
+    ensures kept { OnOk result (lines.new.kept ≡ None) }
+    ensures number { OnOk result (lines.new.number ≡ lines.new.lines) }
+    ensures lines { OnOk result (lines.new.lines ≡ counted lines.old.lines 1) }
+    ensures refused { IfRefused result (λ refusal. (s : SiteValue) (r : Reader) (v : ℕ) → r.phase ≡ AtWeights v 0 []
+        → RefusedAfter s r (ahead lines.old.pending (S.left src.old)) lines.old.lines refusal) }
+    ensures read { IfRead result (Rose (S.faults src.old) (S.faults src.new)) }
+    ensures count { S.faults src.old ≤ S.faults src.new }
+{
+    if let Err(fault) = next_line(lines, src) {
+        return Err(fault);
+    }
+    match act_in(words_of(lines.text())) {
+        Ok(act) => Ok(act),
+        Err(cause) => Err(refused(lines, cause)),
+    }
+}
+
+/// Reads an item, or the layout's line.
+fn read_step<S: Source>(lines: &mut Lines, src: &mut S) -> Result<Step, ItemFault>
+    requires { lines.old.kept ≡ None }
+    ensures reads { IfOk result (λ step. ReadsStep (ahead lines.old.pending (S.left src.old)) (ahead lines.new.pending (S.left src.new)) lines.old.lines lines.new.lines step) }
+    ensures kept { OnOk result (lines.new.kept ≡ None) }
+    ensures number { OnOk result (lines.new.number ≡ lines.new.lines) }
+    ensures refused { IfRefused result (λ refusal. (s : SiteValue) (r : Reader) → r.phase ≡ AtItem
+        → RefusedAfter s r (ahead lines.old.pending (S.left src.old)) lines.old.lines refusal) }
+    ensures read { IfRead result (Rose (S.faults src.old) (S.faults src.new)) }
+    ensures count { S.faults src.old ≤ S.faults src.new }
+{
+    match read_item(lines, src) {
+        Ok(ItemLine::Row(kind, member)) => Ok(Step::Row(kind, member)),
+        Ok(ItemLine::Work(node)) => match read_act(lines, src) {
+            Ok(act) => Ok(Step::Work(node, act)),
+            Err(fault) => Err(fault),
+        },
+        Ok(ItemLine::Layout(count)) => Ok(Step::Layout(count)),
+        Err(fault) => Err(fault),
+    }
+}
+
+/// A reader of the budget and the items of a document. Contracts see the last row, the last work and
+/// the fault that is kept.
+#[derive(Drop)]
+pub struct ItemReader {
+    kind: RowKind,
+    members: [u32; 256],
+    count: usize,
+    work: Work,
+    fault: Option<ItemFault>,
+}
+
+impl Model for ItemReader {
+    ghost use Rattle.std.specs.Prelude.{◌≤◌, take};
+    ghost use Rattle.proof_text.specs.Items.{ItemsState};
+
+    ghost Value = { ItemsState };
+
+    ghost view = { λ s. record { kind = s.kind; members = take s.count s.members; work = s.work; kept = s.fault } };
+
+    ghost invariant = { λ s. s.count ≤ 256 };
+}
+
+impl ItemReader {
+    /// A reader that holds no item and keeps no fault. All its memory is taken here.
+    ///
+    /// # Errors
+    ///
+    /// `AllocError` where there is no memory for 1,024 weights.
+    pub fn new(alloc: Global) -> Result<ItemReader, AllocError>
+        ensures { IfOk result (λ reader. reader.kept ≡ None) }
+    {
+        let weights = Weights::new(alloc)?;
+        Ok(ItemReader {
+            kind: RowKind::Out,
+            members: [0; 256],
+            count: 0,
+            work: Work {
+                node: 0,
+                weights,
+                act: Act::Stop,
+            },
+            fault: None,
+        })
+    }
+
+    /// The kind of the last row.
+    pub fn kind(&self) -> RowKind
+        ensures { result ≡ self.now.kind }
+    {
+        self.kind
+    }
+
+    /// The members of the last row.
+    pub fn members(&self) -> &[u32]
+        ensures value { result.now ≡ self.now.members }
+        ensures most { length self.now.members ≤ 256 }
+    {
+        &self.members[..self.count]
+    }
+
+    /// The last work.
+    pub fn work(&self) -> &Work
+        ensures { result.now ≡ self.now.work }
+    {
+        &self.work
+    }
+
+    /// Reads the line `budget N`.
+    ///
+    /// # Errors
+    ///
+    /// The fault that is kept, and then nothing changes. Else `Refused` with the line's number: `Line`
+    /// where it is too long, unended or missing, `Form` where it is another line, `Limit` where N is
+    /// out of range; `Read` where the source failed. The fault is kept.
+    pub fn budget<S: Source>(&mut self, lines: &mut Lines, src: &mut S) -> Result<u32, ItemFault>
+        requires { self.old.kept ≡ None → lines.old.kept ≡ None }
+        ensures fault { IfSome self.old.kept (λ fault. (result ≡ Err fault) × (self.new ≡ self.old) × (lines.new ≡ lines.old) × (src.new ≡ src.old)) }
+        ensures keeps { IfNone self.old.kept (self.new ≡ record self.old { kept = kept_after result }) }
+        ensures reads { IfOk result (λ n. (s : SiteValue) (r : Reader) → r.phase ≡ AtBudget
+            → ReadsTo s r (ahead lines.old.pending (S.left src.old)) (ahead lines.new.pending (S.left src.new)) (BudgetLine (pos n) ∷ []) (record r { phase = AtItem; budget = n })) }
+        ensures text { IfOk result (λ n. Gives (ahead lines.old.pending (S.left src.old)) (ahead lines.new.pending (S.left src.new)) (line (codes "budget" ∷ decimal n ∷ []))) }
+        ensures range { IfOk result (λ n. IsBudget n) }
+        ensures kept { OnOk result (lines.new.kept ≡ None) }
+        ensures lines { OnOk result (lines.new.lines ≡ counted lines.old.lines 1) }
+        ensures refused { IfNone self.old.kept (IfRefused result (λ refusal. (s : SiteValue) (r : Reader) → r.phase ≡ AtBudget
+            → RefusedAfter s r (ahead lines.old.pending (S.left src.old)) lines.old.lines refusal)) }
+        ensures read { IfNone self.old.kept (IfRead result (Rose (S.faults src.old) (S.faults src.new))) }
+        ensures count { S.faults src.old ≤ S.faults src.new }
+    {
+        if let Some(fault) = self.fault {
+            return Err(fault);
+        }
+        match read_budget(lines, src) {
+            Ok(budget) => Ok(budget),
+            Err(fault) => {
+                self.fault = Some(fault);
+                Err(fault)
+            }
+        }
+    }
+
+    /// Reads the next item, which the reader holds then, or the line `layout K`.
+    ///
+    /// # Errors
+    ///
+    /// The fault that is kept, and then nothing changes. Else `Refused` with the number of the first
+    /// line at which a cause holds: `Line` where it is too long, unended or missing, `Form` where it
+    /// is none that may stand there, `Limit` where a number is out of range; `Read` where the source
+    /// failed. The fault is kept.
+    pub fn next<S: Source>(&mut self, lines: &mut Lines, src: &mut S) -> Result<Next, ItemFault>
+        requires { self.old.kept ≡ None → lines.old.kept ≡ None }
+        ensures fault { IfSome self.old.kept (λ fault. (result ≡ Err fault) × (self.new ≡ self.old) × (lines.new ≡ lines.old) × (src.new ≡ src.old)) }
+        ensures keeps { IfNone self.old.kept (self.new.kept ≡ kept_after result) }
+        ensures reads { IfNone self.old.kept (ReadsNext (ahead lines.old.pending (S.left src.old)) (ahead lines.new.pending (S.left src.new)) lines.old.lines lines.new.lines self.new result) }
+        ensures kept { OnOk result (lines.new.kept ≡ None) }
+        ensures number { OnOk result (lines.new.number ≡ lines.new.lines) }
+        ensures refused { IfNone self.old.kept (IfRefused result (λ refusal. (s : SiteValue) (r : Reader) → r.phase ≡ AtItem
+            → RefusedAfter s r (ahead lines.old.pending (S.left src.old)) lines.old.lines refusal)) }
+        ensures read { IfNone self.old.kept (IfRead result (Rose (S.faults src.old) (S.faults src.new))) }
+        ensures count { S.faults src.old ≤ S.faults src.new }
+    {
+        if let Some(fault) = self.fault {
+            return Err(fault);
+        }
+        match read_step(lines, src) {
+            Ok(Step::Row(kind, member)) => {
+                self.kind = kind;
+                self.members[0] = member;
+                self.count = 1;
+                Ok(Next::Row)
+            }
+            Ok(Step::Work(node, act)) => {
+                self.work.node = node;
+                self.work.weights.clear();
+                self.work.act = act;
+                Ok(Next::Work)
+            }
+            Ok(Step::Layout(count)) => Ok(Next::Layout(count)),
+            Err(fault) => {
+                self.fault = Some(fault);
+                Err(fault)
+            }
+        }
+    }
+}

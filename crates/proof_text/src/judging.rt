@@ -1,0 +1,193 @@
+//! What the words of a line say, with their numbers within the limits.
+
+ghost use Rattle.std.specs.Prelude.{◌≡◌, ◌≤◌, ℕ, ℤ, List, pos, All, IfNone, IfSome, IfOk, IfErr};
+ghost use Rattle.cable_definitions.specs.declared.row.RowKind.TheVariants.{One as OneKind};
+ghost use Rattle.cable_definitions.specs.Command.{IsBudget};
+ghost use Rattle.cable_definitions.specs.Items.{IsWithin, within};
+ghost use Rattle.cable_definitions.specs.Document.{IsClaimInRange};
+ghost use Rattle.cable_definitions.specs.Built.{IsBuiltClaim};
+ghost use Rattle.cable_definitions.specs.Refusal.{RawAct, RawClaim, act_from, act_fields, claim_fields, member_field, AtBudget, AtItem, AtWeights, AtJudged, AtLast, AtCables, BudgetLine, LayoutLine, ActLine, ClaimLine, EndLine};
+ghost use Rattle.proof_text.specs.Words.{held};
+ghost use Rattle.proof_text.specs.Numbers.{Is};
+ghost use Rattle.proof_text.specs.Said.{IsAct, IsClaim};
+ghost use Rattle.proof_text.specs.Judged.{IsGood, IsBad, item_line, claim_from};
+
+use crate::number::{Number, count_in, sum_in};
+use crate::said::{SaidAct, SaidClaim, act_said, claim_said, number_after, numbers_after, row_in};
+use crate::words::{Words, are_two};
+use cable_definitions::claim::{Cause, Claim};
+use cable_definitions::row::{Act, RowKind, Why};
+
+/// The greatest number of a point, of an arc and of a row.
+const LAST_POINT: u32 = 255;
+
+const LAST_ARC: u32 = 65_279;
+
+const LAST_ROW: u32 = 16_383;
+
+/// The most weights of a work so far.
+const MOST_WEIGHTS: u32 = 0;
+
+/// A line that may stand where an item may: a row with its one member, a work without weights by its
+/// node, or the layout by its number of cables.
+#[derive(Clone, Copy)]
+pub enum ItemLine {
+    Row(RowKind, u32),
+    Work(u32),
+    Layout(u32),
+}
+
+/// The budget of the line `budget N`; `Form` where the line is another, `Limit` where N is out of
+/// range.
+pub fn budget_in(words: Words) -> Result<u32, Cause>
+    ensures good { IfOk result (λ n. IsGood AtBudget (held words.entry) (BudgetLine (pos n))) }
+    ensures range { IfOk result (λ n. IsBudget n) }
+    ensures bad { IfErr result (λ cause. IsBad AtBudget (held words.entry) cause) }
+{
+    let Some(number) = number_after(words, b"budget") else {
+        return Err(Cause::Form);
+    };
+    match count_in(number, 1, 50_000) {
+        Some(budget) => Ok(budget),
+        None => Err(Cause::Limit),
+    }
+}
+
+/// The number of cables of the line `layout K`, where it alone may stand; `Form` where the line is
+/// another, `Limit` where K is out of range.
+pub fn layout_in(words: Words) -> Result<u32, Cause>
+    ensures good { IfOk result (λ k. IsGood AtJudged (held words.entry) (LayoutLine (pos k))) }
+    ensures range { IfOk result (λ k. k ≤ 256) }
+    ensures bad { IfErr result (λ cause. IsBad AtJudged (held words.entry) cause) }
+{
+    let Some(number) = number_after(words, b"layout") else {
+        return Err(Cause::Form);
+    };
+    match count_in(number, 0, 256) {
+        Some(count) => Ok(count),
+        None => Err(Cause::Limit),
+    }
+}
+
+/// The greatest number of a member of a row of this kind.
+fn last_member(kind: RowKind) -> u32
+    ensures small { result ≤ 65279 }
+    ensures field { (z : ℤ) → member_field kind z ≡ within (Some z) (pos 0) (pos result) }
+{
+    match kind {
+        RowKind::One => LAST_ARC,
+        _ => LAST_POINT,
+    }
+}
+
+/// The row, the work or the layout of a line; `Form` where the line is another, `Limit` where a
+/// number is out of range.
+pub fn item_in(words: Words) -> Result<ItemLine, Cause>
+    ensures good { IfOk result (λ item. IsGood AtItem (held words.entry) (item_line item)) }
+    ensures bad { IfErr result (λ cause. IsBad AtItem (held words.entry) cause) }
+{
+    if let Some((kind, member)) = row_in(words) {
+        return match count_in(member, 0, last_member(kind)) {
+            Some(member) => Ok(ItemLine::Row(kind, member)),
+            None => Err(Cause::Limit),
+        };
+    }
+    if let Some((node, weights)) = numbers_after(words, b"work") {
+        let Some(node) = count_in(node, 1, 100_001) else {
+            return Err(Cause::Limit);
+        };
+        return match count_in(weights, 0, MOST_WEIGHTS) {
+            Some(_) => Ok(ItemLine::Work(node)),
+            None => Err(Cause::Limit),
+        };
+    }
+    if let Some(count) = number_after(words, b"layout") {
+        return match count_in(count, 0, 256) {
+            Some(count) => Ok(ItemLine::Layout(count)),
+            None => Err(Cause::Limit),
+        };
+    }
+    Err(Cause::Form)
+}
+
+/// The act with its numbers; none where one is out of range.
+fn act_within(act: SaidAct) -> Option<Act>
+    ensures some { IfSome result (λ a. (raw : RawAct) → IsAct act raw → (act_from raw ≡ a) × All IsWithin (act_fields raw)) }
+    ensures none { IfNone result ((raw : RawAct) → IsAct act raw → ¬ (All IsWithin (act_fields raw))) }
+{
+    match act {
+        SaidAct::Split(arc) => Some(Act::Split(count_in(arc, 0, LAST_ARC)?)),
+        SaidAct::Stop => Some(Act::Stop),
+        SaidAct::Full => Some(Act::Full),
+        SaidAct::Row(row) => Some(Act::Dead(Why::Row(count_in(row, 0, LAST_ROW)?))),
+        SaidAct::Pair(a, b) => {
+            let first = count_in(a, 0, LAST_ARC)?;
+            let second = count_in(b, 0, LAST_ARC)?;
+            Some(Act::Dead(Why::Pair(first, second)))
+        }
+        SaidAct::Load(point) => Some(Act::Dead(Why::Load(count_in(point, 0, LAST_POINT)?))),
+        SaidAct::Loop(point) => Some(Act::Dead(Why::Loop(count_in(point, 0, LAST_POINT)?))),
+        SaidAct::Power(point) => Some(Act::Dead(Why::Power(count_in(point, 0, LAST_POINT)?))),
+        SaidAct::Ceiling => Some(Act::Dead(Why::Ceiling)),
+    }
+}
+
+/// The act of a line; `Form` where the line is another, `Limit` where a number is out of range.
+pub fn act_in(words: Words) -> Result<Act, Cause>
+    ensures good { IfOk result (λ a. (raw : RawAct) × (act_from raw ≡ a)
+        × ((v : ℕ) (weights : List (ℕ × ℤ)) → IsGood (AtWeights v 0 weights) (held words.entry) (ActLine raw))) }
+    ensures bad { IfErr result (λ cause. (v : ℕ) (weights : List (ℕ × ℤ)) → IsBad (AtWeights v 0 weights) (held words.entry) cause) }
+{
+    let Some(act) = act_said(words) else {
+        return Err(Cause::Form);
+    };
+    match act_within(act) {
+        Some(act) => Ok(act),
+        None => Err(Cause::Limit),
+    }
+}
+
+/// The verdict with its numbers; none where one is out of range.
+fn claim_within(claim: SaidClaim) -> Option<Claim>
+    ensures some { IfSome result (λ c. (raw : RawClaim) → IsClaim claim raw → (claim_from raw ≡ c) × All IsWithin (claim_fields raw)) }
+    ensures none { IfNone result ((raw : RawClaim) → IsClaim claim raw → ¬ (All IsWithin (claim_fields raw))) }
+    ensures range { IfSome result (λ c. IsClaimInRange c) }
+    ensures built { IfSome result (λ c. IsBuiltClaim c) }
+{
+    match claim {
+        SaidClaim::Optimal(cost) => Some(Claim::Optimal(sum_in(cost)?)),
+        SaidClaim::Gap(cost, bound) => {
+            let cost = sum_in(cost)?;
+            let bound = sum_in(bound)?;
+            Some(Claim::Gap { cost, bound })
+        }
+        SaidClaim::Infeasible => Some(Claim::Infeasible),
+    }
+}
+
+/// The verdict of a line; `Form` where the line is another, `Limit` where a number is out of range.
+pub fn claim_in(words: Words) -> Result<Claim, Cause>
+    ensures good { IfOk result (λ c. (raw : RawClaim) × (claim_from raw ≡ c) × IsGood (AtCables 0) (held words.entry) (ClaimLine raw)) }
+    ensures range { IfOk result (λ c. IsClaimInRange c) }
+    ensures built { IfOk result (λ c. IsBuiltClaim c) }
+    ensures bad { IfErr result (λ cause. IsBad (AtCables 0) (held words.entry) cause) }
+{
+    let Some(claim) = claim_said(words) else {
+        return Err(Cause::Form);
+    };
+    match claim_within(claim) {
+        Some(claim) => Ok(claim),
+        None => Err(Cause::Limit),
+    }
+}
+
+/// Looks for the words `end document`; `Form` where the line is another.
+pub fn end_in(words: Words) -> Result<(), Cause>
+    ensures good { IfOk result (λ _. IsGood AtLast (held words.entry) EndLine) }
+    ensures bad { IfErr result (λ cause. IsBad AtLast (held words.entry) cause) }
+{
+    if are_two(words, b"end", b"document") {
+        return Ok(());
+    }
+    Err(Cause::Form)
+}

@@ -1,0 +1,189 @@
+//! The lines that are read one at a time.
+
+ghost use Rattle.std.specs.Prelude.{◌≡◌, ◌≤◌, ◌∷◌, ◌++◌, [], ℕ, List, pos, codes, length, None, OnOk, IfOk, IsTrue, false};
+ghost use Rattle.std.specs.Fmt.{decimal};
+ghost use Rattle.cable_definitions.specs.Site.{Site as SiteValue};
+ghost use Rattle.cable_definitions.specs.Document.{IsClaimInRange};
+ghost use Rattle.cable_definitions.specs.Built.{IsBuiltClaim};
+ghost use Rattle.cable_definitions.specs.Text.{line, claim_line, HasNoNewline, Whole};
+ghost use Rattle.cable_definitions.specs.Refusal.{RawClaim, Reader, LayoutLine, ClaimLine, EndLine, AtJudged, AtAnyCables, AtCables, AtLast, Past, may_end, is_allowed, IsClaimOf, DocLine};
+ghost use Rattle.cable_text.specs.Stream.{Rose, Gives, IsAtEnd};
+ghost use Rattle.cable_text.specs.Lines.{ahead, Finds};
+ghost use Rattle.proof_text.specs.Reading.{counted, ReadsTo, ReadsLineOf, RefusedAfter, IfRefused, IfRead};
+
+use crate::fault::ItemFault;
+use crate::judging::{claim_in, end_in, layout_in};
+use crate::words::words_of;
+use branch_tree::Refusal;
+use cable_definitions::claim::{Cause, Claim};
+use cable_text::{Line, LineFault, Lines, Source};
+use site_model::Site;
+
+/// The refusal of the last line with this cause.
+pub fn refused(lines: &Lines, cause: Cause) -> ItemFault
+    ensures { result ≡ ItemFault.Refused (record { line = lines.now.number; cause = cause }) }
+{
+    ItemFault::Refused(Refusal {
+        line: lines.number(),
+        cause,
+    })
+}
+
+/// Reads the next line, so that it is the text of `lines`; a line that is too long, unended or
+/// missing is refused with the cause `Line`.
+pub fn next_line<S: Source>(lines: &mut Lines, src: &mut S) -> Result<(), ItemFault>
+    requires { lines.old.kept ≡ None }
+    ensures found { OnOk result (Finds (ahead lines.old.pending (S.left src.old)) (Whole lines.new.text) (ahead lines.new.pending (S.left src.new))) }
+    ensures plain { OnOk result (HasNoNewline lines.new.text) }
+    ensures kept { OnOk result (lines.new.kept ≡ None) }
+    ensures lines { OnOk result (lines.new.lines ≡ counted lines.old.lines 1) }
+    ensures number { lines.new.number ≡ counted lines.old.lines 1 }
+    ensures refused { IfRefused result (λ refusal. (s : SiteValue) (r : Reader) → may_end r.phase ≡ false
+        → RefusedAfter s r (ahead lines.old.pending (S.left src.old)) lines.old.lines refusal) }
+    ensures read { IfRead result (Rose (S.faults src.old) (S.faults src.new)) }
+    ensures count { S.faults src.old ≤ S.faults src.new }
+{
+    match lines.next(src) {
+        Ok(Line::Text) => Ok(()),
+        Ok(Line::End) => Err(refused(lines, Cause::Line)),
+        Err(LineFault::TooLong) => Err(refused(lines, Cause::Line)),
+        Err(LineFault::NoNewline) => Err(refused(lines, Cause::Line)),
+        Err(LineFault::Read) => Err(ItemFault::Read),
+    }
+}
+
+/// Reads the line `layout K` behind a site that is judged, and answers K, from 0 to 256.
+///
+/// # Errors
+///
+/// `Refused` with the line's number: `Line` where it is too long, unended or missing, `Form` where it
+/// is another line, `Limit` where K is out of range. `Read` where the source failed.
+pub fn read_count<S: Source>(lines: &mut Lines, src: &mut S) -> Result<u32, ItemFault>
+    requires { lines.old.kept ≡ None }
+    ensures reads { IfOk result (λ k. (s : SiteValue) (r : Reader) → r.phase ≡ AtJudged
+        → ReadsTo s r (ahead lines.old.pending (S.left src.old)) (ahead lines.new.pending (S.left src.new)) (LayoutLine (pos k) ∷ []) (record r { phase = AtAnyCables k })) }
+    ensures text { IfOk result (λ k. Gives (ahead lines.old.pending (S.left src.old)) (ahead lines.new.pending (S.left src.new)) (line (codes "layout" ∷ decimal k ∷ []))) }
+    ensures range { IfOk result (λ k. k ≤ 256) }
+    ensures kept { OnOk result (lines.new.kept ≡ None) }
+    ensures lines { OnOk result (lines.new.lines ≡ counted lines.old.lines 1) }
+    ensures refused { IfRefused result (λ refusal. (s : SiteValue) (r : Reader) → r.phase ≡ AtJudged
+        → RefusedAfter s r (ahead lines.old.pending (S.left src.old)) lines.old.lines refusal) }
+    ensures read { IfRead result (Rose (S.faults src.old) (S.faults src.new)) }
+    ensures count { S.faults src.old ≤ S.faults src.new }
+{
+    if let Err(fault) = next_line(lines, src) {
+        return Err(fault);
+    }
+    match layout_in(words_of(lines.text())) {
+        Ok(count) => Ok(count),
+        Err(cause) => Err(refused(lines, cause)),
+    }
+}
+
+/// Reads the verdict line.
+///
+/// # Errors
+///
+/// `Refused` with the line's number: `Line` where it is too long, unended or missing, `Form` where it
+/// is another line, `Limit` where a number is out of range. `Read` where the source failed.
+pub fn read_claim<S: Source>(
+    lines: &mut Lines,
+    src: &mut S,
+    site: &Site,
+) -> Result<Claim, ItemFault>
+    requires { lines.old.kept ≡ None }
+    ensures reads { IfOk result (λ claim. (raw : RawClaim) × IsClaimOf site.now raw claim
+        × ((r : Reader) → r.phase ≡ AtCables 0 → ReadsLineOf site.now r (ahead lines.old.pending (S.left src.old)) (ahead lines.new.pending (S.left src.new)) (ClaimLine raw))) }
+    ensures text { IfOk result (λ claim. Gives (ahead lines.old.pending (S.left src.old)) (ahead lines.new.pending (S.left src.new)) (claim_line site.now claim)) }
+    ensures range { IfOk result (λ claim. IsClaimInRange claim) }
+    ensures built { IfOk result (λ claim. IsBuiltClaim claim) }
+    ensures kept { OnOk result (lines.new.kept ≡ None) }
+    ensures number { OnOk result (lines.new.number ≡ lines.new.lines) }
+    ensures lines { OnOk result (lines.new.lines ≡ counted lines.old.lines 1) }
+    ensures refused { IfRefused result (λ refusal. (r : Reader) → r.phase ≡ AtCables 0
+        → RefusedAfter site.now r (ahead lines.old.pending (S.left src.old)) lines.old.lines refusal) }
+    ensures read { IfRead result (Rose (S.faults src.old) (S.faults src.new)) }
+    ensures count { S.faults src.old ≤ S.faults src.new }
+{
+    if let Err(fault) = next_line(lines, src) {
+        return Err(fault);
+    }
+    match claim_in(words_of(lines.text())) {
+        Ok(claim) => Ok(claim),
+        Err(cause) => Err(refused(lines, cause)),
+    }
+}
+
+/// Reads the line `end document`.
+fn read_last<S: Source>(lines: &mut Lines, src: &mut S) -> Result<(), ItemFault>
+    requires { lines.old.kept ≡ None }
+    ensures reads { OnOk result ((s : SiteValue) (r : Reader) → r.phase ≡ AtLast
+        → ReadsTo s r (ahead lines.old.pending (S.left src.old)) (ahead lines.new.pending (S.left src.new)) (EndLine ∷ []) (record r { phase = Past })) }
+    ensures text { OnOk result (Gives (ahead lines.old.pending (S.left src.old)) (ahead lines.new.pending (S.left src.new)) (line (codes "end" ∷ codes "document" ∷ []))) }
+    ensures kept { OnOk result (lines.new.kept ≡ None) }
+    ensures lines { OnOk result (lines.new.lines ≡ counted lines.old.lines 1) }
+    ensures refused { IfRefused result (λ refusal. (s : SiteValue) (r : Reader) → r.phase ≡ AtLast
+        → RefusedAfter s r (ahead lines.old.pending (S.left src.old)) lines.old.lines refusal) }
+    ensures read { IfRead result (Rose (S.faults src.old) (S.faults src.new)) }
+    ensures count { S.faults src.old ≤ S.faults src.new }
+{
+    if let Err(fault) = next_line(lines, src) {
+        return Err(fault);
+    }
+    match end_in(words_of(lines.text())) {
+        Ok(()) => Ok(()),
+        Err(cause) => Err(refused(lines, cause)),
+    }
+}
+
+/// Finds the end of the input, where it may end.
+///
+/// # Errors
+///
+/// `Refused` with the number of the line that follows: `Line` where it is too long or unended, `Form`
+/// where it is whole. `Read` where the source failed.
+pub fn read_end<S: Source>(lines: &mut Lines, src: &mut S) -> Result<(), ItemFault>
+    requires { lines.old.kept ≡ None }
+    ensures end { OnOk result (IsAtEnd (ahead lines.old.pending (S.left src.old))) }
+    ensures same { OnOk result (ahead lines.new.pending (S.left src.new) ≡ ahead lines.old.pending (S.left src.old)) }
+    ensures kept { OnOk result (lines.new.kept ≡ None) }
+    ensures lines { OnOk result (lines.new.lines ≡ lines.old.lines) }
+    ensures refused { IfRefused result (λ refusal. (s : SiteValue) (r : Reader) → IsTrue (may_end r.phase)
+        → RefusedAfter s r (ahead lines.old.pending (S.left src.old)) lines.old.lines refusal) }
+    ensures read { IfRead result (Rose (S.faults src.old) (S.faults src.new)) }
+    ensures count { S.faults src.old ≤ S.faults src.new }
+{
+    match lines.next(src) {
+        Ok(Line::Text) => Err(refused(lines, Cause::Form)),
+        Ok(Line::End) => Ok(()),
+        Err(LineFault::TooLong) => Err(refused(lines, Cause::Line)),
+        Err(LineFault::NoNewline) => Err(refused(lines, Cause::Line)),
+        Err(LineFault::Read) => Err(ItemFault::Read),
+    }
+}
+
+/// Reads the line `end document` and finds the end of the input.
+///
+/// # Errors
+///
+/// `Refused` with the number of the first line at which a cause holds: `Line` where it is too long or
+/// unended, or the line `end document` is missing; `Form` where it is another line, or a whole one
+/// behind the last. `Read` where the source failed.
+pub fn read_close<S: Source>(lines: &mut Lines, src: &mut S) -> Result<(), ItemFault>
+    requires { lines.old.kept ≡ None }
+    ensures reads { OnOk result ((s : SiteValue) (r : Reader) → r.phase ≡ AtLast
+        → ReadsTo s r (ahead lines.old.pending (S.left src.old)) (ahead lines.new.pending (S.left src.new)) (EndLine ∷ []) (record r { phase = Past })) }
+    ensures text { OnOk result (Gives (ahead lines.old.pending (S.left src.old)) (ahead lines.new.pending (S.left src.new)) (line (codes "end" ∷ codes "document" ∷ []))) }
+    ensures end { OnOk result (IsAtEnd (ahead lines.new.pending (S.left src.new))) }
+    ensures kept { OnOk result (lines.new.kept ≡ None) }
+    ensures lines { OnOk result (lines.new.lines ≡ counted lines.old.lines 1) }
+    ensures refused { IfRefused result (λ refusal. (s : SiteValue) (r : Reader) → r.phase ≡ AtLast
+        → RefusedAfter s r (ahead lines.old.pending (S.left src.old)) lines.old.lines refusal) }
+    ensures read { IfRead result (Rose (S.faults src.old) (S.faults src.new)) }
+    ensures count { S.faults src.old ≤ S.faults src.new }
+{
+    if let Err(fault) = read_last(lines, src) {
+        return Err(fault);
+    }
+    read_end(lines, src)
+}

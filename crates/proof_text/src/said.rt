@@ -1,0 +1,217 @@
+//! What the words of a line say, before its numbers are looked at.
+
+ghost use Rattle.std.specs.Prelude.{◌≡◌, ◌≢◌, [], ◌∷◌, ℤ, ℕ, List, codes, IfNone, IfSome, IsTrue};
+ghost use Rattle.cable_definitions.specs.declared.row.RowKind.{RowKind as AnyKind};
+ghost use Rattle.cable_definitions.specs.Numeral.{spelling};
+ghost use Rattle.cable_definitions.specs.Text.{kind_word};
+ghost use Rattle.cable_definitions.specs.Built.{is_built_kind};
+ghost use Rattle.cable_definitions.specs.Refusal.{RawAct, RawClaim, act_spelling, claim_spelling, is_built_verdict};
+ghost use Rattle.proof_text.specs.Words.{held};
+ghost use Rattle.proof_text.specs.Numbers.{Is};
+ghost use Rattle.proof_text.specs.Said.{IsRow, IsAct, IsClaim};
+
+use crate::number::{Number, number_of};
+use crate::words::{Words, are_two, is_one, is_word};
+use cable_definitions::row::RowKind;
+
+/// An act, with any numbers.
+#[derive(Clone, Copy)]
+pub enum SaidAct {
+    Split(Number),
+    Stop,
+    Full,
+    Row(Number),
+    Pair(Number, Number),
+    Load(Number),
+    Loop(Number),
+    Power(Number),
+    Ceiling,
+}
+
+/// A verdict that is read so far, with any numbers.
+#[derive(Clone, Copy)]
+pub enum SaidClaim {
+    Optimal(Number),
+    Gap(Number, Number),
+    Infeasible,
+}
+
+/// The number that follows this word on the line; none where the line is another.
+pub fn number_after(words: Words, word: &[u8]) -> Option<Number>
+    ensures some { IfSome result (λ n. (z : ℤ) × (held words.entry ≡ word.now ∷ spelling z ∷ []) × Is n z) }
+    ensures none { IfNone result ((z : ℤ) → held words.entry ≢ word.now ∷ spelling z ∷ []) }
+{
+    let Words::Two(first, second) = words else {
+        return None;
+    };
+    if !is_word(first, word) {
+        return None;
+    }
+    number_of(second)
+}
+
+/// The two numbers that follow this word on the line; none where the line is another.
+pub fn numbers_after(words: Words, word: &[u8]) -> Option<(Number, Number)>
+    ensures some { IfSome result (λ n. (y z : ℤ) × (held words.entry ≡ word.now ∷ spelling y ∷ spelling z ∷ []) × Is n.0 y × Is n.1 z) }
+    ensures none { IfNone result ((y z : ℤ) → held words.entry ≢ word.now ∷ spelling y ∷ spelling z ∷ []) }
+{
+    let Words::Three(first, second, third) = words else {
+        return None;
+    };
+    if !is_word(first, word) {
+        return None;
+    }
+    let Some(a) = number_of(second) else {
+        return None;
+    };
+    let Some(b) = number_of(third) else {
+        return None;
+    };
+    Some((a, b))
+}
+
+/// The number that follows these two words on the line; none where the line is another.
+fn number_behind(words: Words, word: &[u8], next: &[u8]) -> Option<Number>
+    ensures some { IfSome result (λ n. (z : ℤ) × (held words.entry ≡ word.now ∷ next.now ∷ spelling z ∷ []) × Is n z) }
+    ensures none { IfNone result ((z : ℤ) → held words.entry ≢ word.now ∷ next.now ∷ spelling z ∷ []) }
+{
+    let Words::Three(first, second, third) = words else {
+        return None;
+    };
+    if !is_word(first, word) {
+        return None;
+    }
+    if !is_word(second, next) {
+        return None;
+    }
+    number_of(third)
+}
+
+/// The two numbers that follow these two words on the line; none where the line is another.
+fn numbers_behind(words: Words, word: &[u8], next: &[u8]) -> Option<(Number, Number)>
+    ensures some { IfSome result (λ n. (y z : ℤ) × (held words.entry ≡ word.now ∷ next.now ∷ spelling y ∷ spelling z ∷ []) × Is n.0 y × Is n.1 z) }
+    ensures none { IfNone result ((y z : ℤ) → held words.entry ≢ word.now ∷ next.now ∷ spelling y ∷ spelling z ∷ []) }
+{
+    let Words::Four(first, second, third, fourth) = words else {
+        return None;
+    };
+    if !is_word(first, word) {
+        return None;
+    }
+    if !is_word(second, next) {
+        return None;
+    }
+    let Some(a) = number_of(third) else {
+        return None;
+    };
+    let Some(b) = number_of(fourth) else {
+        return None;
+    };
+    Some((a, b))
+}
+
+/// The kind of rows that a word names, of those that are read so far.
+fn kind_of(word: &[u8]) -> Option<RowKind>
+    ensures some { IfSome result (λ kind. (word.now ≡ kind_word kind) × IsTrue (is_built_kind kind)) }
+    ensures none { IfNone result ((kind : AnyKind) → IsTrue (is_built_kind kind) → word.now ≢ kind_word kind) }
+{
+    if is_word(word, b"out") {
+        return Some(RowKind::Out);
+    }
+    if is_word(word, b"inlet") {
+        return Some(RowKind::Inlet);
+    }
+    if is_word(word, b"bend") {
+        return Some(RowKind::Bend);
+    }
+    None
+}
+
+/// The kind and the member of a row that is read so far; none where the line is another.
+pub fn row_in(words: Words) -> Option<(RowKind, Number)>
+    ensures some { IfSome result (λ row. (z : ℤ) × IsRow (held words.entry) row.0 z × Is row.1 z) }
+    ensures none { IfNone result ((kind : AnyKind) → (z : ℤ) → ¬ (IsRow (held words.entry) kind z)) }
+{
+    let Words::Three(first, second, third) = words else {
+        return None;
+    };
+    if !is_word(first, b"row") {
+        return None;
+    }
+    let Some(kind) = kind_of(second) else {
+        return None;
+    };
+    let Some(member) = number_of(third) else {
+        return None;
+    };
+    Some((kind, member))
+}
+
+/// The act of a line; none where the line is another.
+pub fn act_said(words: Words) -> Option<SaidAct>
+    ensures some { IfSome result (λ act. (raw : RawAct) × (held words.entry ≡ act_spelling raw) × IsAct act raw) }
+    ensures none { IfNone result ((raw : RawAct) → held words.entry ≢ act_spelling raw) }
+{
+    if is_one(words, b"stop") {
+        return Some(SaidAct::Stop);
+    }
+    if is_one(words, b"full") {
+        return Some(SaidAct::Full);
+    }
+    if are_two(words, b"dead", b"ceiling") {
+        return Some(SaidAct::Ceiling);
+    }
+    if let Some(arc) = number_after(words, b"split") {
+        return Some(SaidAct::Split(arc));
+    }
+    if let Some(row) = number_behind(words, b"dead", b"row") {
+        return Some(SaidAct::Row(row));
+    }
+    if let Some(point) = number_behind(words, b"dead", b"load") {
+        return Some(SaidAct::Load(point));
+    }
+    if let Some(point) = number_behind(words, b"dead", b"loop") {
+        return Some(SaidAct::Loop(point));
+    }
+    if let Some(point) = number_behind(words, b"dead", b"power") {
+        return Some(SaidAct::Power(point));
+    }
+    if let Some((a, b)) = numbers_behind(words, b"dead", b"pair") {
+        return Some(SaidAct::Pair(a, b));
+    }
+    None
+}
+
+/// The verdict of a line; none where the line is another, or a verdict that isn't read so far.
+pub fn claim_said(words: Words) -> Option<SaidClaim>
+    ensures some { IfSome result (λ claim. (raw : RawClaim) × (held words.entry ≡ claim_spelling raw) × IsClaim claim raw) }
+    ensures none { IfNone result ((raw : RawClaim) → IsTrue (is_built_verdict raw) → held words.entry ≢ claim_spelling raw) }
+{
+    if is_one(words, b"infeasible") {
+        return Some(SaidClaim::Infeasible);
+    }
+    if let Some(cost) = number_after(words, b"optimal") {
+        return Some(SaidClaim::Optimal(cost));
+    }
+    if let Some((cost, bound)) = numbers_after(words, b"gap") {
+        return Some(SaidClaim::Gap(cost, bound));
+    }
+    None
+}
+
+/// The names and the type's number of a cable line; none where the line is another.
+pub fn cable_said(words: Words<'_>) -> Option<(&[u8], &[u8], Number)>
+    ensures some { IfSome result (λ c. (z : ℤ) × (held words.entry ≡ codes "cable" ∷ c.0.now ∷ c.1.now ∷ spelling z ∷ []) × Is c.2 z) }
+    ensures none { IfNone result ((a b : List ℕ) (z : ℤ) → held words.entry ≢ codes "cable" ∷ a ∷ b ∷ spelling z ∷ []) }
+{
+    let Words::Four(first, from, to, grade) = words else {
+        return None;
+    };
+    if !is_word(first, b"cable") {
+        return None;
+    }
+    let Some(number) = number_of(grade) else {
+        return None;
+    };
+    Some((from, to, number))
+}
