@@ -1,0 +1,11 @@
+use Rattle.cable_text.specs.Lines.{ahead}
+use Rattle.document_check.specs.Feeding.{items_left}
+use Rattle.document_check.proofs.Stages.{HasFed}
+use Rattle.document_check.proofs.document.feed_items.Given as goal
+
+abbrev pub invariant-items : goal.invariant-items
+invariant-items g l =
+    HasFed l.initial.checker l.checker (ahead l.initial.lines.pending (g.S.Source.left l.initial.src)) (ahead l.lines.pending (g.S.Source.left l.src)) l.initial.lines.lines l.lines.lines l.reader.kept l.lines.kept (g.S.Source.faults l.initial.src) (g.S.Source.faults l.src)
+
+abbrev pub decreases-items : goal.decreases-items
+decreases-items g l = items_left l.checker

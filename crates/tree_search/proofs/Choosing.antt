@@ -1,0 +1,54 @@
+-- The bound of a node, and the act that is chosen on it.
+use Rattle.std.proofs.Common.{◌≡◌, ℕ, ◌-◌, ◌*◌, ◌^◌, ◌<◌, ◌≤◌, ℤ, pos, ◌≤ℤ◌, ◌<ℤ◌, List, length, Option, sym, ◌∙◌, subst, arith}
+use Rattle.std.specs.Prelude.{nat_abs}
+use Rattle.std.specs.List.{enumerate_from}
+use Rattle.std.proofs.lemmas.Int.{ints, to_z-of_z}
+use Rattle.std.proofs.lemmas.List.{length-map}
+use Rattle.std.proofs.lemmas.List.FromFn.{length-enumerate_from}
+use Rattle.std.proofs.lemmas.Option.{slice_get_within}
+use Rattle.std.specs.Int.{w128}
+use mir.Val.{to_z, of_z}
+use Rattle.cable_definitions.specs.declared.cable.Arc.{Arc}
+use Rattle.cable_definitions.specs.declared.cable.Cable.{Cable}
+use Rattle.cable_definitions.specs.declared.row.Mark.{Mark}
+use Rattle.cable_definitions.specs.declared.row.Mark.TheVariants.{Free}
+use Rattle.cable_definitions.specs.declared.row.Act.{Act}
+use Rattle.cable_definitions.specs.declared.row.Act.TheVariants.{Split, Full}
+use Rattle.cable_definitions.specs.Site.{Site}
+use Rattle.cable_definitions.specs.Row.{Row}
+use Rattle.tree_search.specs.Chosen.{IsChosen}
+use Rattle.cable_definitions.specs.Tree.{Node, marks_of, mark_in, IsBound, IsFull}
+
+-- each arc has a mark
+pub length-marks : (arcs : List Arc) (nodes : List Node) (v : ℕ) → length (marks_of arcs nodes v) ≡ length arcs
+length-marks arcs nodes v = length-map (enumerate_from 0 arcs) (λ (x : ℕ × Arc). mark_in v nodes x.0 v) ∙ length-enumerate_from 0 arcs
+
+-- a bound that is passed on is the same bound
+pub passed : (z : ℤ) → pos 0 ≤ℤ z → z <ℤ pos (2 ^ 100) → to_z w128 (of_z w128 z) ≡ z
+passed z h k = to_z-of_z w128 z (omega (arith, ints, h, k))
+
+-- the rounded bound is small where the parent's bound and the value are
+pub small-rounded : (parent value bound : ℤ) → pos 0 ≤ℤ parent → parent <ℤ pos (2 ^ 100) → pos 0 ≤ℤ value → value ≤ℤ pos (2 ^ 20 * (2 ^ 100 - 1)) → pos 0 ≤ℤ bound
+    → IsBound (nat_abs (to_z w128 (of_z w128 parent))) (to_z w128 (of_z w128 value)) (nat_abs bound) → to_z w128 (of_z w128 bound) <ℤ pos (2 ^ 100)
+small-rounded parent value bound h k l m o is =
+    let same_parent : to_z w128 (of_z w128 parent) ≡ parent = to_z-of_z w128 parent (omega (arith, ints, h, k)) in
+    let same_value : to_z w128 (of_z w128 value) ≡ value = to_z-of_z w128 value (omega (arith, ints, l, m)) in
+    let most : nat_abs bound ≤ 2 ^ 100 - 1 = is.least (2 ^ 100 - 1) (omega (arith, ints, same_parent, h, k)) (omega (arith, ints, same_value, m)) in
+    let small : bound <ℤ pos (2 ^ 100) = omega (arith, ints, most, o) in
+    let same : to_z w128 (of_z w128 bound) ≡ bound = to_z-of_z w128 bound (omega (arith, ints, o, small)) in
+    subst (λ (z : ℤ). z <ℤ pos (2 ^ 100)) (sym same) small
+
+-- an arc that is split is one of the arcs
+pub split-within : (s : Site) (arcs : List Arc) (rows : List Row) (marks : List Mark) (known : Option ℕ) (bound after n : ℕ) (act : Act) → IsChosen s arcs rows marks known bound act after → length marks ≡ n
+    → (a : ℕ) → act ≡ Split a → a < n
+split-within s arcs rows marks known bound after n act chosen l a e =
+    let split : IsChosen s arcs rows marks known bound (Split a) after = subst (λ (b : Act). IsChosen s arcs rows marks known bound b after) e chosen in
+    let within = slice_get_within marks a Free split.0 in
+    omega (arith, within, l)
+
+-- a full node has a full layout
+pub chosen-full : (s : Site) (arcs : List Arc) (rows : List Row) (marks : List Mark) (known : Option ℕ) (bound after : ℕ) (act : Act) → IsChosen s arcs rows marks known bound act after
+    → act ≡ Full → (cables : List Cable) × IsFull s arcs marks cables
+chosen-full s arcs rows marks known bound after act chosen e =
+    let full : IsChosen s arcs rows marks known bound Full after = subst (λ (b : Act). IsChosen s arcs rows marks known bound b after) e chosen in
+    (full.0, full.1)

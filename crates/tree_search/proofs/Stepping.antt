@@ -1,0 +1,203 @@
+-- One step of a search.
+use Rattle.std.proofs.Common.{◌≡◌, ◌≢◌, ℕ, ◌+◌, ◌<◌, ◌≤◌, ◌^◌, ℤ, pos, ◌≤ℤ◌, ◌<ℤ◌, List, [], ◌∷◌, ◌++◌, length, Some, None, Option, Result, refl, sym, ◌∙◌, ap, subst, arith, length-append, vec_capacity}
+use Rattle.std.specs.Prelude.{nat_abs}
+use Rattle.std.specs.Int.{w128}
+use mir.Val.{to_z, of_z}
+use Rattle.cable_definitions.specs.declared.cable.Arc.{Arc}
+use Rattle.cable_definitions.specs.declared.row.Act.{Act}
+use Rattle.cable_definitions.specs.declared.row.Act.TheVariants.{Split, Stop, Dead, Full}
+use Rattle.cable_definitions.specs.Site.{Site}
+use Rattle.cable_definitions.specs.Tree.{Unworked, Node, WorkItem, node_of, marks_of, IsWorked}
+use Rattle.cable_definitions.specs.Text.{item_lines}
+use Rattle.cable_text.specs.Stream.{Writes}
+use Rattle.proof_laws.specs.Decided.{HasPointRows}
+use Rattle.proof_laws.proofs.WorkCounts.{works-below}
+use Rattle.branch_tree.specs.declared.tree.TreeFault.{TreeFault}
+use Rattle.branch_tree.specs.declared.tree.TreeFault.TheVariants.{Budget, Unmade, Worked}
+use Rattle.branch_tree.specs.State.{TreeState, tree_after}
+use Rattle.tree_search.specs.Steps.{Advances}
+use Rattle.tree_search.specs.Chosen.{IsChosen, IsBoundOf}
+use Rattle.tree_search.specs.Progress.{kept_of, AreOpen, AreBeaten, IsKnown, Settles, IsSearching}
+use Rattle.tree_search.specs.declared.progress.Progress.{Progress}
+use Rattle.tree_search.proofs.Advancing.{leads-then}
+use Rattle.tree_search.proofs.OpenNodes.{last_unworked, open_after, open-after}
+use Rattle.tree_search.proofs.Working.{is_worked, advances-work, beaten-after, known-after}
+use Rattle.tree_search.proofs.Choosing.{passed}
+
+-- Node v was taken from the open nodes, and an act was done on it.
+pub record IsStep (s : Site) (arcs : List Arc) (p q : Progress) (v : ℕ) (act : Act) (bound after : ℕ) : Type 0 where
+  pub rest : List ℕ
+  pub popped : p.open_nodes.items ≡ rest ++ v ∷ []
+  pub bound_is : IsBoundOf s arcs p.pool p.tree.nodes v p.work.weights bound
+  pub marks : q.decisions ≡ marks_of arcs p.tree.nodes v
+  pub marks_count : length q.decisions ≡ length arcs
+  pub chosen : IsChosen s arcs p.pool q.decisions p.known bound act after
+  pub node : Node
+  pub made : node_of p.tree.nodes v ≡ Some node
+  pub unworked : node.status ≡ Unworked
+  pub tree : q.tree ≡ tree_after p.tree v node act after
+  pub pool : q.pool ≡ p.pool
+  pub open_nodes : q.open_nodes.items ≡ open_after rest act (length p.tree.nodes)
+  pub room : vec_capacity q.open_nodes ≡ vec_capacity p.open_nodes
+  pub settles : Settles s arcs q.decisions act after p.known p.best q.known q.best
+  pub weights : q.work.weights ≡ p.work.weights
+
+-- the node that was taken isn't worked
+pub taken : (s : Site) (arcs : List Arc) (n : ℕ) (p : Progress) (rest : List ℕ) (v : ℕ) → IsSearching s arcs n p → p.open_nodes.items ≡ rest ++ v ∷ []
+    → (node : Node) × (node_of p.tree.nodes v ≡ Some node) × (node.status ≡ Unworked)
+taken s arcs n p rest v searching e = last_unworked p.tree.nodes rest v (subst (AreOpen p.tree.nodes) e searching.are_open)
+
+-- while a node isn't worked, there is budget
+pub within_budget : (s : Site) (arcs : List Arc) (n : ℕ) (p : Progress) (v : ℕ) (node : Node) → IsSearching s arcs n p → node_of p.tree.nodes v ≡ Some node → node.status ≡ Unworked
+    → p.tree.works < n
+within_budget s arcs n p v node searching e u =
+    let below = works-below s arcs n searching.items (kept_of p) searching.valid searching.are_arcs searching.accepted v node e u in
+    let enough = searching.enough in
+    omega (arith, below, enough)
+
+-- so the work isn't refused
+pub never_refused : (s : Site) (arcs : List Arc) (n : ℕ) (p : Progress) (rest : List ℕ) (v : ℕ) (fault : TreeFault) → IsSearching s arcs n p → p.open_nodes.items ≡ rest ++ v ∷ []
+    → (fault ≡ Budget → p.tree.works ≡ p.tree.budget) → (fault ≡ Unmade → (p.tree.works ≢ p.tree.budget) × (node_of p.tree.nodes v ≡ None))
+    → (fault ≡ Worked → (p.tree.works ≢ p.tree.budget) × ((made : Node) × (node_of p.tree.nodes v ≡ Some made) × (made.status ≢ Unworked))) → ⊥
+never_refused s arcs n p rest v Budget searching e no_budget unmade is_worked =
+    let t = taken s arcs n p rest v searching e in
+    let l = within_budget s arcs n p v t.0 searching t.1 t.2 in
+    let same = no_budget refl in
+    let budget = searching.budget in
+    omega (arith, l, same, budget)
+never_refused s arcs n p rest v Unmade searching e no_budget unmade is_worked =
+    let t = taken s arcs n p rest v searching e in
+    let none = (unmade refl).1 in
+    let some = t.1 in
+    cc
+never_refused s arcs n p rest v Worked searching e no_budget unmade is_worked =
+    let t = taken s arcs n p rest v searching e in
+    let w = (is_worked refl).1 in
+    let f : Some t.0 ≡ Some w.0 = sym t.1 ∙ w.1 in
+    let same : t.0 ≡ w.0 = cc in
+    w.2 (ap (λ (x : Node). x.status) (sym same) ∙ t.2)
+
+-- there is room for two more open nodes
+pub has_room : (s : Site) (arcs : List Arc) (n : ℕ) (p : Progress) (rest : List ℕ) (v capacity : ℕ) → IsSearching s arcs n p → p.open_nodes.items ≡ rest ++ v ∷ []
+    → capacity ≡ vec_capacity p.open_nodes → length rest + 2 ≤ capacity
+has_room s arcs n p rest v capacity searching e same =
+    let t = taken s arcs n p rest v searching e in
+    let l = within_budget s arcs n p v t.0 searching t.1 t.2 in
+    let few = searching.few in
+    let room = searching.room in
+    let count = ap length e in
+    let sum = length-append rest (v ∷ []) in
+    omega (arith, l, few, room, count, sum, same)
+
+-- the tree is the next
+after-tree : (p q : Progress) (t : TreeState) → q.tree ≡ t → q.pool ≡ p.pool → kept_of q ≡ record { rows = p.pool; nodes = t.nodes; works = t.works }
+after-tree p q t e f = λ i. record { rows = f i; nodes = (e i).nodes; works = (e i).works }
+
+-- the work is accepted
+pub step-worked : (s : Site) (arcs : List Arc) (n : ℕ) (p q : Progress) (v : ℕ) (act : Act) (bound after : ℕ) → IsSearching s arcs n p → IsStep s arcs p q v act bound after
+    → IsWorked s arcs n (kept_of p) v [] act (kept_of q)
+step-worked s arcs n p q v act bound after searching step =
+    let l = within_budget s arcs n p v step.node searching step.made step.unworked in
+    let is = subst (λ w. IsBoundOf s arcs p.pool p.tree.nodes v w bound) searching.no_weights step.bound_is in
+    let chosen = subst (λ marks. IsChosen s arcs p.pool marks p.known bound act after) step.marks step.chosen in
+    subst (IsWorked s arcs n (kept_of p) v [] act) (sym (after-tree p q (tree_after p.tree v step.node act after) step.tree step.pool))
+    (is_worked s arcs n (kept_of p) v step.node p.known act bound after step.made step.unworked l is chosen)
+
+-- how many nodes are open after an act
+open-count : (rest : List ℕ) (act : Act) (count : ℕ) → length (open_after rest act count) ≤ length rest + 2
+open-count rest (Split a) count = (let e = length-append rest ((count + 2) ∷ (count + 1) ∷ []) in omega (arith, e))
+open-count rest Stop count = omega arith
+open-count rest (Dead why) count = omega arith
+open-count rest Full count = omega arith
+
+-- the search goes on
+pub step-searching : (s : Site) (arcs : List Arc) (n : ℕ) (p q : Progress) (v : ℕ) (act : Act) (bound after : ℕ) → IsSearching s arcs n p → IsStep s arcs p q v act bound after → IsSearching s arcs n q
+step-searching s arcs n p q v act bound after searching step =
+    let next = tree_after p.tree v step.node act after in
+    let count = ap length searching_open in
+    let sum = length-append step.rest (v ∷ []) in
+    let most = open-count step.rest act (length p.tree.nodes) in
+    let few = searching.few in
+    let now = ap length step.open_nodes in
+    let works = ap (λ (t : TreeState). t.works) step.tree in
+    record {
+      valid = searching.valid;
+      are_arcs = searching.are_arcs;
+      enough = searching.enough;
+      budget = ap (λ (t : TreeState). t.budget) step.tree ∙ searching.budget;
+      arcs_count = ap (λ (t : TreeState). t.arcs) step.tree ∙ searching.arcs_count;
+      marks_count = step.marks_count;
+      no_weights = step.weights ∙ searching.no_weights;
+      room = (let same = step.room in let room = searching.room in omega (arith, same, room));
+      few = omega (arith, count, sum, most, few, now, works);
+      items = searching.items ++ WorkItem v [] act ∷ [];
+      accepted = leads-then s arcs n _ (kept_of p) (kept_of q) searching.items (WorkItem v [] act ∷ []) searching.accepted (kept_of q, step-worked s arcs n p q v act bound after searching step, refl);
+      rows = subst (HasPointRows s arcs) (sym step.pool) searching.rows;
+      are_open = λ u. rw_open u;
+      beaten = subst (λ (t : TreeState). AreBeaten q.known t.nodes) (sym step.tree)
+          (beaten-after s arcs p.pool q.decisions p.tree.nodes v step.node act bound after p.known q.known p.best q.best step.made searching.beaten step.chosen step.settles);
+      known = subst (λ (t : TreeState). IsKnown s t.nodes q.best q.known) (sym step.tree)
+          (known-after s arcs p.pool q.decisions p.tree.nodes v step.node act bound after p.known q.known p.best q.best searching.are_arcs step.made step.unworked searching.known step.chosen step.settles);
+    }
+  where
+    searching_open : p.open_nodes.items ≡ step.rest ++ v ∷ []
+    searching_open = step.popped
+
+    rw_open : AreOpen q.tree.nodes q.open_nodes.items
+    rw_open =
+        subst (λ (t : TreeState). AreOpen t.nodes q.open_nodes.items) (sym step.tree)
+        (subst (AreOpen (tree_after p.tree v step.node act after).nodes) (sym step.open_nodes)
+        (open-after p.tree.nodes step.rest v step.node act after step.made (subst (AreOpen p.tree.nodes) step.popped searching.are_open)))
+
+-- the open nodes as an act leaves them
+open_by : (rest new : List ℕ) (act : Act) (count : ℕ) → ((a : ℕ) → act ≡ Split a → new ≡ rest ++ (count + 2) ∷ (count + 1) ∷ []) → (((a : ℕ) → ¬ (act ≡ Split a)) → new ≡ rest) → new ≡ open_after rest act count
+open_by rest new (Split a) count split other = split a refl
+open_by rest new Stop count split other = other (λ a e. cc)
+open_by rest new (Dead why) count split other = other (λ a e. cc)
+open_by rest new Full count split other = other (λ a e. cc)
+
+-- what the calls of a step did
+pub is_step : (s : Site) (arcs : List Arc) (p q : Progress) (v : ℕ) (act : Act) (bound after : ℤ) (rest : List ℕ) (count : ℕ) → p.open_nodes.items ≡ rest ++ v ∷ []
+    → pos 0 ≤ℤ bound → bound <ℤ pos (2 ^ 100) → pos 0 ≤ℤ after → after <ℤ pos (2 ^ 100)
+    → IsBoundOf s arcs p.pool p.tree.nodes v p.work.weights (nat_abs bound) → q.decisions ≡ marks_of arcs p.tree.nodes v → length q.decisions ≡ length arcs
+    → IsChosen s arcs p.pool q.decisions p.known (nat_abs (to_z w128 (of_z w128 bound))) act (nat_abs after)
+    → (made : Node) × (node_of p.tree.nodes v ≡ Some made) × (made.status ≡ Unworked) × (q.tree ≡ tree_after p.tree v made act (nat_abs (to_z w128 (of_z w128 after))))
+    → q.pool ≡ p.pool → count ≡ length p.tree.nodes → ((a : ℕ) → act ≡ Split a → q.open_nodes.items ≡ rest ++ (count + 2) ∷ (count + 1) ∷ [])
+    → (((a : ℕ) → ¬ (act ≡ Split a)) → q.open_nodes.items ≡ rest) → vec_capacity q.open_nodes ≡ vec_capacity p.open_nodes
+    → Settles s arcs q.decisions act (nat_abs (to_z w128 (of_z w128 after))) p.known p.best q.known q.best → q.work.weights ≡ p.work.weights
+    → IsStep s arcs p q v act (nat_abs bound) (nat_abs after)
+is_step s arcs p q v act bound after rest count popped b0 b1 a0 a1 is marks marks_count chosen tree pool counted split other room settles weights =
+    let same_bound : nat_abs (to_z w128 (of_z w128 bound)) ≡ nat_abs bound = ap nat_abs (passed bound b0 b1) in
+    let same_after : nat_abs (to_z w128 (of_z w128 after)) ≡ nat_abs after = ap nat_abs (passed after a0 a1) in
+    record {
+      rest = rest;
+      popped = popped;
+      bound_is = is;
+      marks = marks;
+      marks_count = marks_count;
+      chosen = subst (λ (b : ℕ). IsChosen s arcs p.pool q.decisions p.known b act (nat_abs after)) same_bound chosen;
+      node = tree.0;
+      made = tree.1;
+      unworked = tree.2;
+      tree = tree.3 ∙ ap (tree_after p.tree v tree.0 act) same_after;
+      pool = pool;
+      open_nodes = open_by rest q.open_nodes.items act count split other ∙ ap (open_after rest act) counted;
+      room = room;
+      settles = subst (λ (b : ℕ). Settles s arcs q.decisions act b p.known p.best q.known q.best) same_after settles;
+      weights = weights;
+    }
+
+-- a step writes its work
+pub advances-step : {A E : Type 0} {r : Result A E} {a b : Option (List ℕ)} {i j : ℕ} (s : Site) (arcs : List Arc) (n : ℕ) (p q : Progress) (v : ℕ) (act : Act) (bound after : ℕ) → IsSearching s arcs n p
+    → IsStep s arcs p q v act bound after → Writes r a b i j (item_lines (WorkItem v p.work.weights act)) → Advances r s arcs n (kept_of p) (kept_of q) a b i j
+advances-step {r = r} {a} {b} {i} {j} s arcs n p q v act bound after searching step writes =
+    advances-work s arcs n (kept_of p) (kept_of q) v act (step-worked s arcs n p q v act bound after searching step)
+    (subst (λ (w : List (ℕ × ℤ)). Writes r a b i j (item_lines (WorkItem v w act))) searching.no_weights writes)
+
+-- and a work is one more
+pub counts : (s : Site) (arcs : List Arc) (n : ℕ) (p : Progress) (tree : TreeState) (v : ℕ) (node : Node) (act : Act) (after : ℕ) → IsSearching s arcs n p → node_of p.tree.nodes v ≡ Some node
+    → node.status ≡ Unworked → tree ≡ tree_after p.tree v node act after → (p.tree.works < p.tree.budget) × (tree.works ≡ p.tree.works + 1)
+counts s arcs n p tree v node act after searching e u t =
+    let l = within_budget s arcs n p v node searching e u in
+    let budget = searching.budget in
+    (omega (arith, l, budget), ap (λ (x : TreeState). x.works) t)

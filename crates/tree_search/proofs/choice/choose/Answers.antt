@@ -1,0 +1,15 @@
+use Rattle.tree_search.proofs.choice.choose.Goals as goal
+use Rattle.proof_laws.proofs.FullWhole.{full-from}
+
+pub unreachable-requires : goal.unreachable-requires
+unreachable-requires c =
+    let s = c.args.site.now in
+    let arcs = c.args.arcs.now in
+    let full = full-from s arcs c.args.pool.now c.args.decisions.now _ (record {
+      valid = c.points-valid.ensures.valid;
+      are_arcs = c.requires.arcs;
+      decided = record { as_many = c.requires.marks_count; none_free = c.in-None.ensures.none };
+      listed = c.requires.rows;
+      no_reason = c.in_default.ensures.none;
+    }) in
+    c.in_default-is_full.ensures.none full.0 full.1

@@ -1,0 +1,31 @@
+-- The act that is chosen on a node.
+use Rattle.std.specs.Prelude.{◌≡◌, ℕ, ◌≤◌, ℤ, List, slice_get, Some, None, Option}
+use Rattle.cable_definitions.specs.declared.cable.Cable.{Cable}
+use Rattle.cable_definitions.specs.declared.cable.Arc.{Arc}
+use Rattle.cable_definitions.specs.declared.row.Mark.{Mark}
+use Rattle.cable_definitions.specs.declared.row.Mark.TheVariants.{Free}
+use Rattle.cable_definitions.specs.declared.row.Act.{Act}
+use Rattle.cable_definitions.specs.declared.row.Act.TheVariants.{Split, Stop, Dead, Full}
+use Rattle.cable_definitions.specs.Site.{Site}
+use Rattle.cable_definitions.specs.Layout.{cost}
+use Rattle.cable_definitions.specs.Row.{Row}
+use Rattle.cable_definitions.specs.Choice.{IsValue}
+use Rattle.cable_definitions.specs.Tree.{Node, IsBound, IsDead, IsFull, node_of, marks_of}
+
+-- a cost is known, and the bound isn't below it
+abbrev pub IsBeaten : Option ℕ → ℕ → Type 0
+IsBeaten None bound = ⊥
+IsBeaten (Some best) bound = best ≤ bound
+
+-- the act may be done on a node with these marks and this new bound, where this cost is known; the node is left with the last bound
+abbrev pub IsChosen : Site → List Arc → List Row → List Mark → Option ℕ → ℕ → Act → ℕ → Type 0
+IsChosen s arcs rows marks known bound (Split a) after = (slice_get marks a ≡ Some Free) × (after ≡ bound)
+IsChosen s arcs rows marks known bound Stop after = IsBeaten known bound × (after ≡ bound)
+IsChosen s arcs rows marks known bound (Dead why) after = IsDead s arcs rows marks bound why × (after ≡ bound)
+IsChosen s arcs rows marks known bound Full after = (cables : List Cable) × IsFull s arcs marks cables × (after ≡ cost s cables)
+
+-- the bound that these weights give node v
+pub record IsBoundOf (s : Site) (arcs : List Arc) (rows : List Row) (nodes : List Node) (v : ℕ) (weights : List (ℕ × ℤ)) (bound : ℕ) : Type 0 where
+  pub value : ℤ
+  pub is_value : IsValue s arcs rows (marks_of arcs nodes v) weights value
+  pub is_bound : (node : Node) → node_of nodes v ≡ Some node → IsBound node.bound value bound

@@ -1,0 +1,122 @@
+//! The act that is chosen on a node.
+
+ghost use Rattle.std.specs.Prelude.{◌≡◌, ℕ, ◌^◌, ◌≤◌, ◌<◌, ◌↔◌, pos, ◌≤ℤ◌, ◌<ℤ◌, unsigned_abs, [], length, IsTrue, slice_get, Some, IfSome, IfNone};
+ghost use Rattle.cable_definitions.specs.declared.row.Mark.{Mark as AMark};
+ghost use Rattle.cable_definitions.specs.Arcs.{AreArcs};
+ghost use Rattle.cable_definitions.specs.Tree.{marks_of};
+ghost use Rattle.proof_laws.specs.Decided.{HasPointRows};
+ghost use Rattle.branch_tree.specs.State.{IsMade};
+ghost use Rattle.tree_search.specs.Chosen.{IsBeaten, IsChosen, IsBoundOf};
+
+use bound_value::{Decisions, Mark, Weights, rounded_bound, weigh};
+use branch_tree::{Act, Tree, find_dead, is_full};
+use cable_rows::RowPool;
+use candidate_cables::Arcs;
+use site_model::Site;
+
+/// An act on a node, and the bound that the node has after it, in cost units.
+#[derive(Clone, Copy)]
+pub(crate) struct Choice {
+    pub(crate) act: Act,
+    pub(crate) bound: i128,
+}
+
+/// Marks the arcs as a node decides them, and answers the bound that the weights give it, in cost units.
+pub(crate) fn bound_of(
+    site: &Site,
+    arcs: &Arcs,
+    pool: &RowPool,
+    tree: &Tree,
+    weights: &Weights,
+    node: u32,
+    decisions: &mut Decisions,
+) -> i128
+    requires arcs { AreArcs site.now arcs.now }
+    requires arcs_count { tree.now.arcs ≡ length arcs.now }
+    requires marks_count { length decisions.old ≡ length arcs.now }
+    requires no_weights { weights.now ≡ [] }
+    requires made { IsMade tree.now.nodes node }
+    ensures marks { decisions.new ≡ marks_of arcs.now tree.now.nodes node }
+    ensures marks_count { length decisions.new ≡ length arcs.now }
+    ensures bound { IsBoundOf site.now arcs.now pool.now tree.now.nodes node weights.now (unsigned_abs result) }
+    ensures not_negative { pos 0 ≤ℤ result }
+    ensures small { result <ℤ pos (2 ^ 100) }
+{
+    tree.decisions(node, decisions);
+    let value = weigh(site, arcs, pool, decisions, weights);
+    rounded_bound(tree.bound(node), value)
+}
+
+/// The least number of an arc that is free; none where no arc is.
+fn first_free(decisions: &Decisions, arcs: u32) -> Option<u32>
+    requires { length decisions.now ≡ arcs }
+    ensures free { IfSome result (λ arc. slice_get decisions.now arc ≡ Some Mark.Free) }
+    ensures none { IfNone result ((k : ℕ) (mark : AMark) → slice_get decisions.now k ≡ Some mark → ¬ (mark ≡ Mark.Free)) }
+{
+    for arc in 0..arcs {
+        if let Mark::Free = decisions.mark(arc) {
+            return Some(arc);
+        }
+    }
+    None
+}
+
+/// Whether a cost is known and the bound isn't below it.
+pub(crate) fn is_beaten(known: Option<u64>, bound: i128) -> bool
+    requires { pos 0 ≤ℤ bound }
+    ensures { IsTrue result ↔ IsBeaten known (unsigned_abs bound) }
+{
+    match known {
+        None => false,
+        Some(cost) => i128::from(cost) <= bound,
+    }
+}
+
+/// Chooses what is done with a node with these decisions and this bound, where this cost is known: it is dead, or full, or stopped where no
+/// layout in its box is cheaper than the known one, or else split on its first free arc.
+pub(crate) fn choose(
+    site: &Site,
+    arcs: &Arcs,
+    pool: &RowPool,
+    decisions: &Decisions,
+    known: Option<u64>,
+    bound: i128,
+) -> Choice
+    requires arcs { AreArcs site.now arcs.now }
+    requires marks_count { length decisions.now ≡ length arcs.now }
+    requires rows { HasPointRows site.now arcs.now pool.now }
+    requires not_negative { pos 0 ≤ℤ bound }
+    requires small { bound <ℤ pos (2 ^ 100) }
+    ensures chosen { IsChosen site.now arcs.now pool.now decisions.now known (unsigned_abs bound) result.act (unsigned_abs result.bound) }
+    ensures not_negative { pos 0 ≤ℤ result.bound }
+    ensures small { result.bound <ℤ pos (2 ^ 100) }
+    ensures cost { result.act ≡ Act.Full → result.bound <ℤ pos (2 ^ 64) }
+{
+    let _valid = site.points();
+    if let Some(why) = find_dead(site, arcs, pool, decisions, bound) {
+        return Choice {
+            act: Act::Dead(why),
+            bound,
+        };
+    }
+    if let Some(cost) = is_full(site, arcs, decisions) {
+        return Choice {
+            act: Act::Full,
+            bound: i128::from(cost),
+        };
+    }
+    if is_beaten(known, bound) {
+        return Choice {
+            act: Act::Stop,
+            bound,
+        };
+    }
+    match first_free(decisions, arcs.len()) {
+        Some(arc) => Choice {
+            act: Act::Split(arc),
+            bound,
+        },
+        // A node without a free arc is dead or full.
+        None => unreachable!(),
+    }
+}

@@ -1,0 +1,81 @@
+ghost use Rattle.std.specs.Prelude.{◌≡◌, ◌≤◌, Err, IfOk, OnErr};
+ghost use Rattle.cable_definitions.specs.Arcs.{AreArcs};
+ghost use Rattle.cable_definitions.specs.Budget.{enough_budget};
+ghost use Rattle.cable_text.specs.Stream.{Rose};
+ghost use Rattle.tree_search.specs.Found.{FindsPlan, WritesPart};
+
+use crate::progress::Progress;
+use cable_definitions::claim::Claim;
+use cable_text::{Failed, Sink};
+use candidate_cables::Arcs;
+use layout_meaning::Layout;
+use site_model::Site;
+use std::alloc::{AllocError, Global};
+use thiserror::Error;
+
+/// A layout in ascending order of start, and what is claimed of it: that it is the cheapest, at this
+/// cost; or, of no cable, that the site has no legal layout.
+#[derive(Drop)]
+pub struct Plan {
+    pub layout: Layout,
+    pub claim: Claim,
+}
+
+/// Why a search wasn't ended.
+#[derive(Clone, Copy, Debug, PartialEq, Eq, Error)]
+pub enum SearchFault {
+    #[error("the items could not be written")]
+    Write,
+    #[error("out of memory")]
+    Memory,
+}
+
+impl From<AllocError> for SearchFault {
+    ghost use Rattle.tree_search.specs.declared.finding.SearchFault.TheVariants.{Memory};
+
+    ghost from_gives = { λ _ fault. fault ≡ Memory };
+
+    fn from(_error: AllocError) -> SearchFault {
+        SearchFault::Memory
+    }
+}
+
+impl From<Failed> for SearchFault {
+    ghost use Rattle.tree_search.specs.declared.finding.SearchFault.TheVariants.{Write};
+
+    ghost from_gives = { λ _ fault. fault ≡ Write };
+
+    fn from(_error: Failed) -> SearchFault {
+        SearchFault::Write
+    }
+}
+
+/// Finds the cheapest legal layout of a site, or that there is none, by splitting candidate arcs into
+/// used and unused, and appends each row and each work to `out` when it is made: first the rows of the
+/// turbines, of the points and of the bends, then the works, the last made open node first.
+///
+/// The budget of works has to be enough for the site, so that the search always ends.
+///
+/// # Errors
+///
+/// `Write` only where the count of `out` rose or stands at its last value, `Memory` where there is none;
+/// a first part of the items' lines was appended then.
+pub fn search<O: Sink>(
+    alloc: Global,
+    site: &Site,
+    arcs: &Arcs,
+    budget: u32,
+    out: &mut O,
+) -> Result<Plan, SearchFault>
+    requires arcs { AreArcs site.now arcs.now }
+    requires enough { enough_budget arcs.now ≤ budget }
+    requires most { budget ≤ 50000 }
+    ensures plan { IfOk result (λ plan. FindsPlan site.now arcs.now budget (O.taken out.old) (O.taken out.new) plan.layout plan.claim) }
+    ensures part { OnErr result (WritesPart site.now arcs.now budget (O.taken out.old) (O.taken out.new)) }
+    ensures failed { result ≡ Err SearchFault.Write → Rose (O.faults out.old) (O.faults out.new) }
+    ensures count { O.faults out.old ≤ O.faults out.new }
+{
+    let mut progress = Progress::new(alloc, arcs.len(), budget)?;
+    progress.run(site, arcs, out)?;
+    Ok(progress.into_plan())
+}

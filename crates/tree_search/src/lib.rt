@@ -1,0 +1,12 @@
+//! The search for the cheapest legal layout over a tree of nodes, which writes its proof item by item.
+#![tactic(auto)]
+
+mod choice;
+mod finding;
+mod progress;
+mod rows;
+
+pub use finding::{Plan, SearchFault, search};
+
+#[cfg(test)]
+mod tests;

@@ -1,0 +1,245 @@
+//! How far a search is, and one work of it.
+
+ghost use Rattle.std.specs.Prelude.{◌≡◌, ℕ, ◌+◌, ◌^◌, ◌≤◌, ◌<◌, [], ◌∷◌, ◌++◌, List, length, false, pos, ◌≤ℤ◌, ◌<ℤ◌, unsigned_abs, IsTrue, IfOk, OnOk, vec_capacity};
+ghost use Rattle.cable_definitions.specs.declared.cable.Cable.{Cable};
+ghost use Rattle.cable_definitions.specs.Arcs.{AreArcs};
+ghost use Rattle.cable_definitions.specs.Budget.{enough_budget};
+ghost use Rattle.cable_definitions.specs.Layout.{cost as cost_of_all};
+ghost use Rattle.cable_definitions.specs.Tree.{IsFull, nothing_kept};
+ghost use Rattle.tree_search.specs.Steps.{Advances};
+ghost use Rattle.tree_search.specs.Progress.{kept_of, IsFresh, IsSearching, KeepsBest, Settles, claim_of};
+
+use crate::choice::{Choice, bound_of, choose, is_beaten};
+use crate::finding::Plan;
+use crate::rows::list_first_rows;
+use bound_value::{Decisions, Weights};
+use branch_tree::{Act, Claim, Tree, Work, full_layout};
+use cable_rows::RowPool;
+use cable_text::{Failed, Sink};
+use candidate_cables::Arcs;
+use layout_meaning::Layout;
+use proof_text::write_work;
+use site_model::Site;
+use std::alloc::{AllocError, Global};
+
+/// The rows, the tree and its open nodes, and the cheapest layout so far with its cost. The decisions are those of the node that is worked, and
+/// the work is the last that was done.
+#[derive(Drop)]
+pub(crate) struct Progress {
+    pool: RowPool,
+    tree: Tree,
+    decisions: Decisions,
+    open_nodes: Vec<u32>,
+    best: Layout,
+    known: Option<u64>,
+    work: Work,
+}
+
+/// Node 1 alone, with room for the open nodes of so many works.
+fn first_open(alloc: Global, budget: u32) -> Result<Vec<u32>, AllocError>
+    requires { budget ≤ 50000 }
+    ensures nodes { IfOk result (λ v. v.items ≡ 1 ∷ []) }
+    ensures room { IfOk result (λ v. budget + 2 ≤ vec_capacity v) }
+{
+    let mut nodes = Vec::with_capacity(alloc, budget as usize + 2)?;
+    nodes.push_reserved(1);
+    Ok(nodes)
+}
+
+/// Adds the nodes that a split makes after so many nodes; the one in which the arc is used is worked next.
+fn push_children(nodes: &mut Vec<u32>, act: Act, count: u32)
+    requires count { count ≤ 100001 }
+    requires room { length nodes.old.items + 2 ≤ vec_capacity nodes.old }
+    ensures split { (arc : ℕ) → act ≡ Act.Split arc → nodes.new.items ≡ nodes.old.items ++ (count + 2) ∷ (count + 1) ∷ [] }
+    ensures other { ((arc : ℕ) → ¬ (act ≡ Act.Split arc)) → nodes.new.items ≡ nodes.old.items }
+    ensures room { vec_capacity nodes.new ≡ vec_capacity nodes.old }
+{
+    if let Act::Split(_) = act {
+        nodes.push_reserved(count + 2);
+        nodes.push_reserved(count + 1);
+    }
+}
+
+/// Makes the layout of a full node, which has these decisions and this cost, the best, where it is cheaper than the known one or none was known.
+fn keep_best(
+    site: &Site,
+    arcs: &Arcs,
+    decisions: &Decisions,
+    cost: u64,
+    known: &mut Option<u64>,
+    best: &mut Layout,
+)
+    requires arcs { AreArcs site.now arcs.now }
+    requires marks { length decisions.now ≡ length arcs.now }
+    requires full { (cables : List Cable) × IsFull site.now arcs.now decisions.now cables }
+    ensures { KeepsBest site.now arcs.now decisions.now cost known.old best.old known.new best.new }
+{
+    if is_beaten(*known, i128::from(cost)) {
+        return;
+    }
+    full_layout(site, arcs, decisions, best);
+    *known = Some(cost);
+}
+
+/// Makes the layout of a node that was found full, with its cost as the bound, the best, where it is cheaper than the known one or none was known.
+fn settle(
+    site: &Site,
+    arcs: &Arcs,
+    decisions: &Decisions,
+    act: Act,
+    bound: i128,
+    known: &mut Option<u64>,
+    best: &mut Layout,
+)
+    requires arcs { AreArcs site.now arcs.now }
+    requires marks { length decisions.now ≡ length arcs.now }
+    requires full { act ≡ Act.Full → (cables : List Cable) × IsFull site.now arcs.now decisions.now cables }
+    requires not_negative { pos 0 ≤ℤ bound }
+    requires cost { act ≡ Act.Full → bound <ℤ pos (2 ^ 64) }
+    ensures { Settles site.now arcs.now decisions.now act (unsigned_abs bound) known.old best.old known.new best.new }
+{
+    match act {
+        Act::Full => keep_best(site, arcs, decisions, bound as u64, known, best),
+        Act::Split(_) | Act::Stop | Act::Dead(_) => {}
+    }
+}
+
+impl Progress {
+    /// A search that has done nothing yet. All memory of the search is taken here.
+    ///
+    /// # Errors
+    ///
+    /// `AllocError` where there is no memory.
+    pub(crate) fn new(alloc: Global, arcs: u32, budget: u32) -> Result<Progress, AllocError>
+        requires some_work { 1 ≤ budget }
+        requires most_works { budget ≤ 50000 }
+        requires most_arcs { arcs ≤ 65280 }
+        ensures { IfOk result (IsFresh arcs budget) }
+    {
+        Ok(Progress {
+            pool: RowPool::new(alloc)?,
+            tree: Tree::new(alloc, budget, arcs)?,
+            decisions: Decisions::new(alloc, arcs)?,
+            open_nodes: first_open(alloc, budget)?,
+            best: Layout::new(alloc)?,
+            known: None,
+            work: Work {
+                node: 0,
+                weights: Weights::new(alloc)?,
+                act: Act::Stop,
+            },
+        })
+    }
+
+    /// Works the open node that was added last, and writes the work; answers false where there is none.
+    ///
+    /// # Errors
+    ///
+    /// `Failed` only where the count of `out` rose or stands at its last value; a first part of the work was appended then.
+    fn step<O: Sink>(&mut self, site: &Site, arcs: &Arcs, out: &mut O) -> Result<bool, Failed>
+        requires arcs { AreArcs site.now arcs.now }
+        requires searching { (n : ℕ) × IsSearching site.now arcs.now n self.old }
+        ensures advances { (n : ℕ) → IsSearching site.now arcs.now n self.old
+            → Advances result site.now arcs.now n (kept_of self.old) (kept_of self.new) (O.taken out.old) (O.taken out.new) (O.faults out.old) (O.faults out.new) }
+        ensures searching { OnOk result ((n : ℕ) → IsSearching site.now arcs.now n self.old → IsSearching site.now arcs.now n self.new) }
+        ensures more { IfOk result (λ more. IsTrue more → (self.old.tree.works < self.old.tree.budget) × (self.new.tree.works ≡ self.old.tree.works + 1)) }
+        ensures none { IfOk result (λ more. more ≡ false → self.new.open_nodes.items ≡ []) }
+    {
+        let Some(node) = self.open_nodes.pop() else {
+            return Ok(false);
+        };
+        let bound = bound_of(
+            site,
+            arcs,
+            &self.pool,
+            &self.tree,
+            &self.work.weights,
+            node,
+            &mut self.decisions,
+        );
+        let Choice { act, bound } = choose(
+            site,
+            arcs,
+            &self.pool,
+            &self.decisions,
+            self.known,
+            bound,
+        );
+        let count = self.tree.count();
+        match self.tree.work(node, act, bound) {
+            Ok(()) => {}
+            // The node isn't worked yet, and the budget is enough for all works.
+            Err(_) => unreachable!(),
+        }
+        push_children(&mut self.open_nodes, act, count);
+        settle(
+            site,
+            arcs,
+            &self.decisions,
+            act,
+            bound,
+            &mut self.known,
+            &mut self.best,
+        );
+        self.work.node = node;
+        self.work.act = act;
+        write_work(&self.work, out)?;
+        Ok(true)
+    }
+
+    /// Works open nodes until none is left.
+    ///
+    /// # Errors
+    ///
+    /// `Failed` only where the count of `out` rose or stands at its last value; a first part of the works was appended then.
+    fn work_all<O: Sink>(&mut self, site: &Site, arcs: &Arcs, out: &mut O) -> Result<(), Failed>
+        requires arcs { AreArcs site.now arcs.now }
+        requires searching { (n : ℕ) × IsSearching site.now arcs.now n self.old }
+        ensures advances { (n : ℕ) → IsSearching site.now arcs.now n self.old
+            → Advances result site.now arcs.now n (kept_of self.old) (kept_of self.new) (O.taken out.old) (O.taken out.new) (O.faults out.old) (O.faults out.new) }
+        ensures searching { OnOk result ((n : ℕ) → IsSearching site.now arcs.now n self.old → IsSearching site.now arcs.now n self.new) }
+        ensures none { OnOk result (self.new.open_nodes.items ≡ []) }
+    {
+        while self.step(site, arcs, out)? {}
+        Ok(())
+    }
+
+    /// Lists the rows of points, and works the tree until no node is open.
+    ///
+    /// # Errors
+    ///
+    /// `Failed` only where the count of `out` rose or stands at its last value; a first part of the items was appended then.
+    pub(crate) fn run<O: Sink>(
+        &mut self,
+        site: &Site,
+        arcs: &Arcs,
+        out: &mut O,
+    ) -> Result<(), Failed>
+        requires arcs { AreArcs site.now arcs.now }
+        requires fresh { (n : ℕ) × (enough_budget arcs.now ≤ n) × IsFresh (length arcs.now) n self.old }
+        ensures advances { (n : ℕ) → enough_budget arcs.now ≤ n → IsFresh (length arcs.now) n self.old
+            → Advances result site.now arcs.now n nothing_kept (kept_of self.new) (O.taken out.old) (O.taken out.new) (O.faults out.old) (O.faults out.new) }
+        ensures searching { OnOk result ((n : ℕ) → enough_budget arcs.now ≤ n → IsFresh (length arcs.now) n self.old → IsSearching site.now arcs.now n self.new) }
+        ensures none { OnOk result (self.new.open_nodes.items ≡ []) }
+    {
+        let _valid = site.points();
+        list_first_rows(site, arcs, &mut self.pool, out)?;
+        self.work_all(site, arcs, out)
+    }
+
+    /// The cheapest layout of the full nodes with the claim that its cost is optimal; no cable and the claim that there is no layout, where
+    /// no node was full.
+    pub(crate) fn into_plan(self) -> Plan
+        ensures layout { result.layout ≡ self.best }
+        ensures claim { result.claim ≡ claim_of self.known }
+    {
+        let claim = match self.known {
+            None => Claim::Infeasible,
+            Some(cost) => Claim::Optimal(cost),
+        };
+        Plan {
+            layout: self.best,
+            claim,
+        }
+    }
+}

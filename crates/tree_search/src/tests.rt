@@ -1,0 +1,130 @@
+ghost use Rattle.std.specs.Prelude.{◌≤◌, IfOk};
+ghost use Rattle.cable_definitions.specs.Arcs.{AreArcs};
+ghost use Rattle.cable_definitions.specs.Budget.{enough_budget};
+
+use crate::{Plan, SearchFault, search};
+use cable_definitions::cable::Cable;
+use cable_definitions::claim::Claim;
+use cable_text::MemorySink;
+use candidate_cables::Arcs;
+use site_model::{Mode, RawKind, Site, SiteBuilder, Version};
+use std::alloc::Global;
+use std::test::Fail;
+
+/// The name of a point, its coordinates and its kind.
+type RawPoint = (u8, i128, i128, RawKind);
+
+/// A substation of four feeders and 10,000 power units.
+const SUBSTATION: RawPoint = (b'S', 0, 0, RawKind::Substation(4, 10000));
+
+/// Three turbines of 100 power units, of which the first is nearest to the substation.
+const NEAR: RawPoint = (b'A', 0, 1000, RawKind::Turbine(100));
+
+const LEFT: RawPoint = (b'B', -300, 1400, RawKind::Turbine(100));
+
+const RIGHT: RawPoint = (b'C', 300, 1400, RawKind::Turbine(100));
+
+/// The site of these points with one cable type.
+fn site_of(
+    alloc: Global,
+    mode: Mode,
+    capacity: i128,
+    price: i128,
+    points: &[RawPoint],
+) -> Result<Site, Fail> {
+    let mut builder = SiteBuilder::new(alloc, Version::One, mode)?;
+    builder.add_type(capacity, price, None)?;
+    for (name, x, y, kind) in points {
+        builder.add_point(&[*name], *x, *y, *kind)?;
+    }
+    Ok(builder.build()?)
+}
+
+/// The arcs of a site of at most four points.
+fn few_arcs(alloc: Global, site: &Site) -> Result<Arcs, Fail>
+    ensures arcs { IfOk result (AreArcs site.now) }
+    ensures enough { IfOk result (λ arcs. enough_budget arcs ≤ 8191) }
+{
+    if site.points().len() > 4 {
+        return Err(Fail::from("more than four points"));
+    }
+    Ok(Arcs::new(alloc, site)?)
+}
+
+/// What is found for a site of at most four points.
+fn plan_of(alloc: Global, site: &Site, out: &mut MemorySink) -> Result<Plan, Fail> {
+    let arcs = few_arcs(alloc, site)?;
+    Ok(search(alloc, site, &arcs, 8191, out)?)
+}
+
+/// What is claimed of a site of at most four points.
+fn claim_of(alloc: Global, site: &Site) -> Result<Claim, Fail> {
+    let mut out = MemorySink::new(alloc, 1 << 20, Vec::new(alloc))?;
+    Ok(plan_of(alloc, site, &mut out)?.claim)
+}
+
+#[test]
+fn the_cheapest_costs(rt: HostRuntime) -> Result<(), Fail> {
+    let alloc = rt.alloc();
+    let fork = [SUBSTATION, NEAR, LEFT, RIGHT];
+    for (mode, capacity, cost) in [
+        (Mode::Tree, 400, 2000),
+        (Mode::Tree, 100, 3864),
+        (Mode::Strings, 400, 2100),
+    ] {
+        let site = site_of(alloc, mode, capacity, 1, &fork)?;
+        assert_eq!(&rt; claim_of(alloc, &site)?, Claim::Optimal(cost));
+    }
+    Ok(())
+}
+
+#[test]
+fn sites_without_layouts(rt: HostRuntime) -> Result<(), Fail> {
+    let alloc = rt.alloc();
+    for (feeders, power) in [(0, 10000), (1, 10000), (4, 299)] {
+        let substation = (b'S', 0, 0, RawKind::Substation(feeders, power));
+        let site = site_of(alloc, Mode::Tree, 200, 1, &[substation, NEAR, LEFT, RIGHT])?;
+        assert_eq!(&rt; claim_of(alloc, &site)?, Claim::Infeasible);
+    }
+    Ok(())
+}
+
+/// The items of a turbine 500 metres from its substation.
+const ITEMS: &str =
+    "row out 1\nrow inlet 0\nrow inlet 1\nwork 1 0\nsplit 0\nwork 2 0\nfull\nwork 3 0\ndead row 0\n";
+
+#[test]
+fn one_turbine(rt: HostRuntime) -> Result<(), Fail> {
+    let alloc = rt.alloc();
+    let turbine = (b'A', 300, 400, RawKind::Turbine(100));
+    let site = site_of(alloc, Mode::Tree, 400, 100, &[SUBSTATION, turbine])?;
+    let mut out = MemorySink::new(alloc, 1000, Vec::new(alloc))?;
+    let plan = plan_of(alloc, &site, &mut out)?;
+    assert_eq!(&rt; plan.claim, Claim::Optimal(50000));
+    let cable = Cable {
+        from: 1,
+        to: 0,
+        grade: 0,
+    };
+    assert_eq!(&rt; plan.layout.cables(), [cable].as_slice());
+    assert_eq!(&rt; out.taken(), ITEMS.as_bytes());
+    Ok(())
+}
+
+#[test]
+fn a_failing_sink_ends_the_search(rt: HostRuntime) -> Result<(), Fail> {
+    let alloc = rt.alloc();
+    let turbine = (b'A', 300, 400, RawKind::Turbine(100));
+    let site = site_of(alloc, Mode::Tree, 400, 100, &[SUBSTATION, turbine])?;
+    let arcs = few_arcs(alloc, &site)?;
+    let mut out = MemorySink::new(alloc, 50, Vec::new(alloc))?;
+    match search(alloc, &site, &arcs, 8191, &mut out) {
+        Ok(_) => assert!(&rt; false),
+        Err(fault) => assert_eq!(&rt; fault, SearchFault::Write),
+    }
+    assert_eq!(&rt;
+        out.taken(),
+        b"row out 1\nrow inlet 0\nrow inlet 1\nwork 1 0\nsplit 0".as_slice()
+    );
+    Ok(())
+}
