@@ -1,57 +1,168 @@
--- The text of a document from its parts, and what its writers ask for.
-use Rattle.std.proofs.Common.{◌≡◌, ℕ, List, [], ◌∷◌, ◌++◌, map, length, get_or, sym, ◌∙◌, ap, subst, append_assoc, arith}
-use Rattle.std.specs.Prelude.{codes, All}
+-- Documents that are accepted, and refusals of what is none.
+use Rattle.std.proofs.Common.{◌≡◌, ℕ, ◌+◌, ◌≤◌, ◌<◌, List, [], ◌∷◌, ◌++◌, length, map, Option, Some, inl, inr, refl, sym, ap, ◌∙◌, subst, append_assoc, arith, codes}
+use Rattle.std.specs.Prelude.{◌^◌, All, Bool, Result, Ok, Err}
 use Rattle.std.specs.List.{concat}
 use Rattle.std.specs.Fmt.{decimal}
-use Rattle.std.proofs.lemmas.List.{append-nil}
-use Rattle.std.proofs.lemmas.Option.{slice_get-get_or}
+use Rattle.std.proofs.lemmas.Bool.{false≢true}
+use Rattle.std.proofs.lemmas.List.Elements.{All-nil}
 use Rattle.cable_definitions.specs.declared.cable.Cable.{Cable}
+use Rattle.cable_definitions.specs.declared.cable.Arc.{Arc}
 use Rattle.cable_definitions.specs.declared.claim.Claim.{Claim}
 use Rattle.cable_definitions.specs.declared.claim.Claim.TheVariants.{Optimal, Gap, Partial, Infeasible}
-use Rattle.cable_definitions.specs.Site.{Site}
-use Rattle.cable_definitions.specs.Layout.{IsLegal}
-use Rattle.cable_definitions.specs.Text.{line, site_lines, cable_line, claim_line, document_text}
-use Rattle.proof_text.specs.Written.{IsCableOf, IsClaimOf, layout_text}
-use Rattle.cable_definitions.specs.Tree.{LayoutAgrees}
-use Rattle.cable_program.specs.Planning.{IsPlanFor, IsFinal}
+use Rattle.cable_definitions.specs.declared.site.SiteCode.{SiteCode}
+use Rattle.cable_definitions.specs.Site.{Site, IsValid}
+use Rattle.cable_definitions.specs.Arcs.{AreArcs}
+use Rattle.cable_definitions.specs.Built.{IsBuiltClaim}
+use Rattle.cable_definitions.specs.Tree.{Item, LayoutAgrees}
+use Rattle.cable_definitions.specs.Text.{line, item_lines, cable_line, claim_line, site_lines, line_count, document_text}
+use Rattle.cable_definitions.specs.Items.{IsLineFault}
+use Rattle.cable_definitions.specs.Document.{Yes}
+use Rattle.cable_definitions.specs.Refusal.{AtBudget, IsRefusedAfter, IsRefusedBehind}
+use Rattle.cable_definitions.specs.Report.{report_text}
+use Rattle.branch_tree.specs.declared.work.Refusal.{Refusal}
+use Rattle.cable_text.specs.Stream.{Gives, IsAtEnd}
+use Rattle.site_text.specs.Reading.{counted}
+use Rattle.site_input.proofs.Forms.{behind, first_fault}
+use Rattle.site_model.specs.declared.fault.SiteFault.{SiteFault}
+use Rattle.site_model.specs.declared.fault.SiteFault.TheVariants.{Refused as RefusedSite, Read as SiteRead, Memory as SiteMemory}
+use Rattle.proof_laws.proofs.Sound.{says-document}
+use Rattle.plan_report.specs.Reported.{IsReported}
+use Rattle.plan_report.proofs.Legal.{legal_reported}
+use Rattle.document_check.specs.declared.document.Accepted.{Accepted}
+use Rattle.document_check.specs.declared.document.DocumentFault.{DocumentFault}
+use Rattle.document_check.specs.declared.document.DocumentFault.TheVariants.{Refused as RefusedDocument, Read as DocumentRead, Memory as DocumentMemory}
+use Rattle.document_check.specs.Behind.{text_behind, IsAcceptedBehind}
+use Rattle.cable_program.specs.declared.fault.Fault.{Fault}
+use Rattle.cable_program.specs.declared.fault.Fault.TheVariants.{Write}
+use Rattle.cable_program.specs.Ends.{Stream, Told, Faulted, Got, GotPart, IsChecked, IsReport}
+use Rattle.cable_program.specs.Faults.{fault_in_document, document_fault}
+use Rattle.cable_program.specs.DocumentSteps.{ReadsDocument, ReportGives}
 
-joined : (a l c v e : List ℕ) → ((((a ++ []) ++ l) ++ c) ++ v) ++ e ≡ (a ++ (l ++ c)) ++ (v ++ e)
-joined a l c v e =
-    append_assoc (((a ++ []) ++ l) ++ c) v e
-    ∙ ap (λ x. x ++ (v ++ e)) (ap (λ x. (x ++ l) ++ c) (append-nil a) ∙ append_assoc a l c)
+-- a document is the lines of its site and the text behind it
+site_in_front : (s : Site) (n : ℕ) (items : List Item) (cables : List Cable) (claim : Claim) → site_lines s ++ text_behind s n items cables claim ≡ document_text s n items cables claim
+site_in_front s n items cables claim =
+    parts (site_lines s) (line (codes "budget" ∷ decimal n ∷ [])) (concat (map item_lines items)) (line (codes "layout" ∷ decimal (length cables) ∷ [])) (concat (map (cable_line s) cables)) (claim_line s claim)
+    (line (codes "end" ∷ codes "document" ∷ []))
+  where
+    parts : (a b c d e f g : List ℕ) → a ++ (b ++ c ++ d ++ e ++ f ++ g) ≡ a ++ b ++ c ++ d ++ e ++ f ++ g
+    parts a b c d e f g = simp append_assoc
 
--- a document without items is the site, the budget, the layout, and the claim with the last line
-pub document_parts : (s : Site) (n : ℕ) (cables : List Cable) (claim : Claim)
-    → document_text s n [] cables claim
-    ≡ ((site_lines s ++ line (codes "budget" ∷ decimal n ∷ [])) ++ layout_text s cables) ++ (claim_line s claim ++ line (codes "end" ∷ codes "document" ∷ []))
-document_parts s n cables claim =
-    joined (site_lines s ++ line (codes "budget" ∷ decimal n ∷ [])) (line (codes "layout" ∷ decimal (length cables) ∷ [])) (concat (map (cable_line s) cables)) (claim_line s claim) (line (codes "end" ∷ codes "document" ∷ []))
+-- the document of a site and of what is accepted behind it
+yes_behind : (s : Site) (middle : Option (List ℕ)) (cables : List Cable) (claim : Claim) → IsValid s → (h : IsAcceptedBehind s middle cables claim)
+    → Yes (document_text s h.budget h.items cables claim) s claim
+yes_behind s middle cables claim valid h = record {
+  arcs = h.arcs;
+  budget = h.budget;
+  items = h.items;
+  cables = cables;
+  kept = h.kept;
+  valid = valid;
+  are_arcs = h.are_arcs;
+  is_budget = h.is_budget;
+  text = refl;
+  in_order = h.in_order;
+  accepted = h.accepted;
+  built = h.built;
+  in_range = h.in_range;
+  agrees = h.agrees;
+}
 
--- the cables of a legal layout have their ends among the points
-cables_of_legal : (s : Site) (cables : List Cable) → IsLegal s cables → All (IsCableOf s) cables
-cables_of_legal s cables legal k d h =
-    let at = slice_get-get_or cables k d h in
-    record { from = (legal.range k).from (get_or cables k d) at; to = (legal.range k).to (get_or cables k d) at }
+-- the bytes that are told are that document
+bytes_are : (s : Site) (before middle : Option (List ℕ)) (cables : List Cable) (claim : Claim) (told : List ℕ) → Gives before middle (site_lines s) → (h : IsAcceptedBehind s middle cables claim)
+    → before ≡ Some told → told ≡ document_text s h.budget h.items cables claim
+bytes_are s before middle cables claim told gives h is =
+    let b = behind before middle (site_lines s) told gives is in
+    b.1 ∙ ap (λ (rest : List ℕ). site_lines s ++ rest) (h.text b.0 b.2) ∙ site_in_front s h.budget h.items cables claim
 
-no_cables : (s : Site) (cables : List Cable) → cables ≡ [] → All (IsCableOf s) cables
-no_cables s cables e = let P : List Cable → Type 0 = λ xs. All (IsCableOf s) xs in subst P (sym e) (λ k d h. absurd (omega (arith, h)))
+-- a site that is read, and what is accepted behind it
+pub document_checked : (input : Stream) (s : Site) (before middle : Option (List ℕ)) (accepted : Accepted) → IsValid s → Gives before middle (site_lines s)
+    → ((bytes : List ℕ) → Told input bytes → before ≡ Some bytes) → IsAcceptedBehind s middle accepted.layout accepted.claim → IsAtEnd input.after → ReadsDocument input (Ok (s, accepted))
+unfolding yes_behind
+document_checked input s before middle accepted valid gives told h ended =
+    let yes = yes_behind s middle accepted.layout accepted.claim valid h in (
+      record {
+        bytes = document_text s h.budget h.items accepted.layout accepted.claim;
+        document = yes;
+        read = λ bytes t. bytes_are s before middle accepted.layout accepted.claim bytes gives h (told bytes t);
+        whole = ended;
+        says = says-document (document_text s h.budget h.items accepted.layout accepted.claim) s accepted.claim yes;
+      },
+      refl,
+    )
 
-cables_agree : (s : Site) (cables : List Cable) (claim : Claim) → LayoutAgrees s cables claim → IsFinal claim → All (IsCableOf s) cables
-cables_agree s cables (Optimal cost) a f = cables_of_legal s cables a.0
-cables_agree s cables (Gap cost bound) a f = absurd f
-cables_agree s cables (Partial bound stuck) a f = absurd f
-cables_agree s cables Infeasible a f = no_cables s cables a
+-- how the fault of a site ends the reading of a document
+fault_ends : (input : Stream) (fault : SiteFault) (lines : ℕ) (before : Option (List ℕ)) → lines ≡ 0 → ((bytes : List ℕ) → Told input bytes → before ≡ Some bytes)
+    → ((bytes : List ℕ) (code : SiteCode) (place : ℕ) (broken : Bool) → before ≡ Some bytes → lines + 34100 < 2 ^ 64
+    → ◌≡◌ {A = Result Site SiteFault} (Err fault) (Err (RefusedSite code place broken)) → IsLineFault bytes (lines + 1) code place broken)
+    → (◌≡◌ {A = Result Site SiteFault} (Err fault) (Err SiteRead) → Faulted input) → ReadsDocument input (Err (fault_in_document fault))
+fault_ends input (RefusedSite code place broken) lines before none told refused read =
+    λ bytes t. inl (record { code = code; broken_line = broken; fault = first_fault lines bytes code place broken none (λ few. refused bytes code place broken (told bytes t) few refl); cause_is = refl })
+fault_ends input SiteRead lines before none told refused read = read refl
+fault_ends input SiteMemory lines before none told refused read = tt
 
--- the cables of a plan have their ends among the points
-pub cables_of_plan : (s : Site) (cables : List Cable) (claim : Claim) → IsPlanFor s cables claim → All (IsCableOf s) cables
-cables_of_plan s cables claim p = cables_agree s cables claim p.layout p.final
+pub site_fails : (input : Stream) (fault : SiteFault) (answer : Fault) (lines : ℕ) (before : Option (List ℕ)) → answer ≡ fault_in_document fault → lines ≡ 0
+    → ((bytes : List ℕ) → Told input bytes → before ≡ Some bytes)
+    → ((bytes : List ℕ) (code : SiteCode) (place : ℕ) (broken : Bool) → before ≡ Some bytes → lines + 34100 < 2 ^ 64
+    → ◌≡◌ {A = Result Site SiteFault} (Err fault) (Err (RefusedSite code place broken)) → IsLineFault bytes (lines + 1) code place broken)
+    → (◌≡◌ {A = Result Site SiteFault} (Err fault) (Err SiteRead) → Faulted input) → ReadsDocument input (Err answer)
+site_fails input fault answer lines before is none told refused read = subst (λ (f : Fault). ReadsDocument input (Err f)) (sym is) (fault_ends input fault lines before none told refused read)
 
-claim_final : (s : Site) (claim : Claim) → IsFinal claim → IsClaimOf s claim
-claim_final s (Optimal cost) f = tt
-claim_final s (Gap cost bound) f = absurd f
-claim_final s (Partial bound stuck) f = absurd f
-claim_final s Infeasible f = tt
+-- a refusal behind a site
+refused_behind_site : (s : Site) (arcs : List Arc) (before middle : Option (List ℕ)) (bytes : List ℕ) (lines start : ℕ) (x : Refusal) → IsValid s → AreArcs s arcs → Gives before middle (site_lines s)
+    → before ≡ Some bytes → start ≡ 0 → lines ≡ counted start (line_count (site_lines s)) → line_count (site_lines s) ≤ 34100
+    → ((rest : List ℕ) → middle ≡ Some rest → lines + 60000000 < 2 ^ 64 → IsRefusedAfter s arcs AtBudget rest (lines + 1) x.line x.cause) → IsRefusedBehind AtBudget bytes 1 x.line x.cause
+refused_behind_site s arcs before middle bytes lines start x valid are gives told none number few h =
+    let b = behind before middle (site_lines s) bytes gives told in
+    let same : lines + 1 ≡ 1 + line_count (site_lines s) = omega (arith, none, number, few) in
+    record {
+      site = s;
+      rest = b.0;
+      front = record { valid = valid; text = b.1 };
+      arcs = arcs;
+      are_arcs = are;
+      refused = subst (λ (base : ℕ). IsRefusedAfter s arcs AtBudget b.0 base x.line x.cause) same (h b.0 b.2 (omega (arith, none, number, few)));
+    }
 
--- the claim of a plan names no point
-pub claim_of_plan : (s : Site) (cables : List Cable) (claim : Claim) → IsPlanFor s cables claim → IsClaimOf s claim
-claim_of_plan s cables claim p = claim_final s claim p.final
+-- how the fault of a document behind its site ends the reading
+fault_behind_ends : (input : Stream) (fault : DocumentFault) (s : Site) (arcs : List Arc) (before middle : Option (List ℕ)) (lines start : ℕ) → IsValid s → AreArcs s arcs → Gives before middle (site_lines s)
+    → ((bytes : List ℕ) → Told input bytes → before ≡ Some bytes) → start ≡ 0 → lines ≡ counted start (line_count (site_lines s)) → line_count (site_lines s) ≤ 34100
+    → ((x : Refusal) (rest : List ℕ) (others : List Arc) → ◌≡◌ {A = Result Accepted DocumentFault} (Err fault) (Err (RefusedDocument x)) → middle ≡ Some rest → AreArcs s others
+    → lines + 60000000 < 2 ^ 64 → IsRefusedAfter s others AtBudget rest (lines + 1) x.line x.cause)
+    → (◌≡◌ {A = Result Accepted DocumentFault} (Err fault) (Err DocumentRead) → Faulted input) → ReadsDocument input (Err (document_fault fault))
+fault_behind_ends input (RefusedDocument x) s arcs before middle lines start valid are gives told none number few refused read =
+    λ bytes t. inr (refused_behind_site s arcs before middle bytes lines start x valid are gives (told bytes t) none number few (λ rest is small. refused x rest arcs refl is are small))
+fault_behind_ends input DocumentRead s arcs before middle lines start valid are gives told none number few refused read = read refl
+fault_behind_ends input DocumentMemory s arcs before middle lines start valid are gives told none number few refused read = tt
+
+pub document_fails : (input : Stream) (fault : DocumentFault) (answer : Fault) (s : Site) (arcs : List Arc) (before middle : Option (List ℕ)) (lines start : ℕ) → answer ≡ document_fault fault
+    → IsValid s → AreArcs s arcs → Gives before middle (site_lines s)
+    → ((bytes : List ℕ) → Told input bytes → before ≡ Some bytes) → start ≡ 0 → lines ≡ counted start (line_count (site_lines s)) → line_count (site_lines s) ≤ 34100
+    → ((x : Refusal) (rest : List ℕ) (others : List Arc) → ◌≡◌ {A = Result Accepted DocumentFault} (Err fault) (Err (RefusedDocument x)) → middle ≡ Some rest → AreArcs s others
+    → lines + 60000000 < 2 ^ 64 → IsRefusedAfter s others AtBudget rest (lines + 1) x.line x.cause)
+    → (◌≡◌ {A = Result Accepted DocumentFault} (Err fault) (Err DocumentRead) → Faulted input) → ReadsDocument input (Err answer)
+document_fails input fault answer s arcs before middle lines start is valid are gives told none number few refused read =
+    subst (λ (f : Fault). ReadsDocument input (Err f)) (sym is) (fault_behind_ends input fault s arcs before middle lines start valid are gives told none number few refused read)
+
+-- the cables of a document can be reported
+cables_reported : (s : Site) (cables : List Cable) (claim : Claim) → IsBuiltClaim claim → LayoutAgrees s cables claim → All (IsReported s cables) cables
+cables_reported s cables (Optimal c) built h = legal_reported s cables h.0
+cables_reported s cables (Gap c b) built h = legal_reported s cables h.0
+cables_reported s cables (Partial b stuck) built h = absurd (false≢true built)
+cables_reported s cables Infeasible built h = subst (λ (xs : List Cable). All (IsReported s xs) xs) (sym h) (All-nil (IsReported s []))
+
+pub document_reported : (input : Stream) (s : Site) (cables : List Cable) (claim : Claim) (checked : IsChecked input s claim) → checked.document.cables ≡ cables → All (IsReported s cables) cables
+document_reported input s cables claim checked same =
+    let document = checked.document in
+    subst (λ (xs : List Cable). All (IsReported s xs) xs) same (cables_reported s document.cables claim document.built.claim_built document.agrees.0)
+
+-- the report of a document that is accepted, whole or in part
+is_report : (input : Stream) (s : Site) (cables : List Cable) (claim : Claim) (checked : IsChecked input s claim) → checked.document.cables ≡ cables → IsReport input (report_text s cables claim)
+is_report input s cables claim checked same = (s, claim, checked, ap (λ (xs : List Cable). report_text s xs claim) (sym same))
+
+pub report_written : (input out : Stream) (s : Site) (cables : List Cable) (claim : Claim) (checked : IsChecked input s claim) → checked.document.cables ≡ cables → Got out (report_text s cables claim)
+    → ReportGives input out (Ok tt)
+report_written input out s cables claim checked same got = (report_text s cables claim, is_report input s cables claim checked same, got)
+
+pub report_begun : (input out : Stream) (s : Site) (cables : List Cable) (claim : Claim) (checked : IsChecked input s claim) → checked.document.cables ≡ cables → Faulted out
+    → GotPart out (report_text s cables claim) → ReportGives input out (Err Write)
+report_begun input out s cables claim checked same failed part = (failed, (report_text s cables claim, is_report input s cables claim checked same, part))

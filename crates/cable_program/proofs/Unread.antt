@@ -1,5 +1,5 @@
 -- Words that no number in range spells.
-use Rattle.std.proofs.Common.{◌≡◌, ℕ, ◌≤◌, ◌≢◌, List, [], ◌∷◌, refl, sym, ◌∙◌, arith, ⊎_elim}
+use Rattle.std.proofs.Common.{◌≡◌, ℕ, ◌≤◌, ◌≢◌, List, [], ◌∷◌, refl, sym, ap, length, ◌∙◌, arith, ⊎_elim}
 use Rattle.std.specs.Prelude.{codes, ℤ, pos}
 use Rattle.std.specs.Fmt.{decimal}
 use Rattle.std.proofs.lemmas.Int.{ints}
@@ -37,11 +37,11 @@ no_number word n h k w Over u =
 
 pub no_plan : (first second : List ℕ) (e : NumberFault) → IsUnread second e → (command : Command) → IsBuiltWords (first ∷ second ∷ []) command → ⊥
 no_plan first second e u (Plan n lanes) b = no_number second n b.0 b.1 (second_of first second (codes "plan") (decimal n) b.3) e u
-no_plan first second e u Check b = b
-no_plan first second e u Site b = b
+no_plan first second e u Check b = absurd (omega (arith, ap length b))
+no_plan first second e u Site b = absurd (omega (arith, ap length b))
 no_plan first second e u Migrate b = b
-no_plan first second e u Judge b = b
-no_plan first second e u Report b = b
+no_plan first second e u Judge b = absurd (omega (arith, ap length b))
+no_plan first second e u Report b = absurd (omega (arith, ap length b))
 no_plan first second e u Rings b = b
 no_plan first second e u Carry b = b
 no_plan first second e u (Drill k turbines n) b = b

@@ -1,29 +1,36 @@
-ghost use Rattle.std.specs.Prelude.{[]};
-ghost use Rattle.cable_definitions.specs.Text.{document_text};
-ghost use Rattle.cable_text.specs.Stream.{Writes};
-ghost use Rattle.cable_program.specs.Planning.{IsPlanFor};
+ghost use Rattle.cable_program.specs.Ends.{stream};
+ghost use Rattle.cable_program.specs.DocumentSteps.{ReadsDocument};
 
-use cable_definitions::claim::Claim;
-use cable_text::{Failed, Sink};
-use layout_meaning::Layout;
-use proof_text::{write_budget, write_claim, write_layout};
+use crate::fault::{Fault, in_document, of_document};
+use cable_text::{Lines, Source};
+use candidate_cables::Arcs;
+use document_check::{Accepted, read_document};
 use site_model::Site;
-use site_text::write_site;
+use site_text::read_site;
+use std::alloc::Global;
 
-/// Appends the document of a plan: the site's lines, the budget, the layout and the claim.
-pub(crate) fn write_plan<O: Sink>(
-    site: &Site,
-    budget: u32,
-    layout: &Layout,
-    claim: Claim,
-    out: &mut O,
-) -> Result<(), Failed>
-    requires { IsPlanFor site.now layout.now claim }
-    ensures { Writes result (O.taken out.old) (O.taken out.new) (O.faults out.old)
-        (O.faults out.new) (document_text site.now budget [] layout.now claim) }
+/// Reads a whole input as a document, and checks it.
+pub(crate) fn read_checked<S: Source>(
+    alloc: Global,
+    input: &mut S,
+) -> Result<(Site, Accepted), Fault>
+    ensures { ReadsDocument
+        (stream (S.left input.old) (S.left input.new) (S.faults input.old) (S.faults input.new))
+        result }
 {
-    write_site(site, out)?;
-    write_budget(budget, out)?;
-    write_layout(site, layout, out)?;
-    write_claim(site, claim, out)
+    let Ok(mut lines) = Lines::new(alloc) else {
+        return Err(Fault::Memory);
+    };
+    let site = match read_site(alloc, &mut lines, input) {
+        Ok(site) => site,
+        Err(fault) => return Err(in_document(fault)),
+    };
+    // The definition of a refusal speaks of the site's arcs.
+    let Ok(_arcs) = Arcs::new(alloc, &site) else {
+        return Err(Fault::Memory);
+    };
+    match read_document(alloc, &site, &mut lines, input) {
+        Ok(accepted) => Ok((site, accepted)),
+        Err(fault) => Err(of_document(fault)),
+    }
 }

@@ -2,13 +2,18 @@
 //! to `run`, whose contract is the promise of the whole program.
 #![tactic(auto)]
 
+mod check;
 mod document;
 mod ending;
+mod fault;
+mod judge;
+mod layout;
 mod notes;
 mod plan;
-mod planning;
-mod reading;
+mod planned;
+mod report;
 mod run;
+mod site;
 #[cfg(test)]
 mod tests;
 mod words;

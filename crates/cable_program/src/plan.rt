@@ -1,33 +1,24 @@
-ghost use Rattle.std.specs.Prelude.{◌≡◌};
-ghost use Rattle.cable_program.specs.Ends.{PlanEnds, EndsWith};
-ghost use Rattle.cable_program.specs.Planning.{PrintEnds, IsFinal};
+ghost use Rattle.std.specs.Prelude.{◌≡◌, ◌≤◌, [], ◌∷◌, ◌++◌, codes, All};
+ghost use Rattle.std.specs.Fmt.{decimal};
+ghost use Rattle.cable_definitions.specs.Text.{line, site_lines, claim_line};
+ghost use Rattle.cable_text.specs.Stream.{Writes};
+ghost use Rattle.proof_text.specs.Written.{IsCableOf, IsClaimOf, layout_text};
+ghost use Rattle.cable_program.specs.Ends.{stream, PlanEnds, EndsWith};
+ghost use Rattle.cable_program.specs.PlanSteps.{PlanGives};
+ghost use Rattle.tree_search.specs.Found.{IsFinal};
 
-use crate::document::write_plan;
 use crate::ending::Ending;
-use crate::notes::{note_fault, refuse_site};
-use crate::planning::planned;
-use crate::reading::read_whole;
+use crate::fault::Fault;
+use crate::notes::note_fault;
+use crate::planned::read_planned;
 use cable_definitions::claim::Claim;
-use cable_text::{Sink, Source};
+use cable_text::{Failed, Sink, Source};
+use candidate_cables::Arcs;
+use proof_text::{write_budget, write_claim, write_layout};
+use site_model::Site;
+use site_text::write_site;
 use std::alloc::Global;
-use thiserror::Error;
-
-/// Why a plan wasn't printed whole.
-#[derive(Debug, Drop, Error)]
-pub(crate) enum PlanFault {
-    /// The input is no site that is planned so far.
-    #[error("the site is refused")]
-    Refused,
-    /// The input failed.
-    #[error("read fault")]
-    Read,
-    /// The output failed.
-    #[error("write fault")]
-    Write,
-    /// Memory ran out.
-    #[error("want of memory")]
-    Memory,
-}
+use tree_search::{Plan, SearchFault, search};
 
 /// Reads a site, prints its plan, and notes what went wrong.
 pub(crate) fn plan<S: Source, O: Sink, E: Sink>(
@@ -37,18 +28,17 @@ pub(crate) fn plan<S: Source, O: Sink, E: Sink>(
     out: &mut O,
     note: &mut E,
 ) -> Ending
+    requires enough { 8191 ≤ budget }
+    requires most { budget ≤ 50000 }
     ensures { PlanEnds budget
-        (record { before = S.left input.old; after = S.left input.new; faults_before = S.faults input.old; faults_after = S.faults input.new })
-        (record { before = O.taken out.old; after = O.taken out.new; faults_before = O.faults out.old; faults_after = O.faults out.new })
-        (record { before = E.taken note.old; after = E.taken note.new; faults_before = E.faults note.old; faults_after = E.faults note.new })
+        (stream (S.left input.old) (S.left input.new) (S.faults input.old) (S.faults input.new))
+        (stream (O.taken out.old) (O.taken out.new) (O.faults out.old) (O.faults out.new))
+        (stream (E.taken note.old) (E.taken note.new) (E.faults note.old) (E.faults note.new))
         result }
 {
     match print_plan(alloc, budget, input, out) {
         Ok(claim) => ending_of(claim),
-        Err(PlanFault::Refused) => refuse_site(note),
-        Err(PlanFault::Read) => note_fault(note, b"read fault\n", Ending::ReadFault),
-        Err(PlanFault::Write) => note_fault(note, b"write fault\n", Ending::WriteFault),
-        Err(PlanFault::Memory) => note_fault(note, b"want of memory\n", Ending::Memory),
+        Err(fault) => note_fault(fault, note),
     }
 }
 
@@ -58,24 +48,59 @@ fn print_plan<S: Source, O: Sink>(
     budget: u32,
     input: &mut S,
     out: &mut O,
-) -> Result<Claim, PlanFault>
-    ensures { PrintEnds budget
-        (record { before = S.left input.old; after = S.left input.new; faults_before = S.faults input.old; faults_after = S.faults input.new })
-        (record { before = O.taken out.old; after = O.taken out.new; faults_before = O.faults out.old; faults_after = O.faults out.new })
+) -> Result<Claim, Fault>
+    requires enough { 8191 ≤ budget }
+    requires most { budget ≤ 50000 }
+    ensures { PlanGives budget
+        (stream (S.left input.old) (S.left input.new) (S.faults input.old) (S.faults input.new))
+        (stream (O.taken out.old) (O.taken out.new) (O.faults out.old) (O.faults out.new))
         result }
 {
-    let site = read_whole(alloc, input)?;
-    let Ok((layout, claim)) = planned(alloc, &site) else {
-        return Err(PlanFault::Memory);
+    let site = match read_planned(alloc, input) {
+        Ok(site) => site,
+        Err(fault) => return Err(fault),
     };
-    match write_plan(&site, budget, &layout, claim, out) {
-        Ok(()) => Ok(claim),
-        Err(_) => Err(PlanFault::Write),
+    let arcs = match Arcs::new(alloc, &site) {
+        Ok(arcs) => arcs,
+        Err(_) => return Err(Fault::Memory),
+    };
+    match write_head(&site, budget, out) {
+        Ok(()) => {}
+        Err(_) => return Err(Fault::Write),
+    }
+    let plan = match search(alloc, &site, &arcs, budget, out) {
+        Ok(plan) => plan,
+        Err(SearchFault::Write) => return Err(Fault::Write),
+        Err(SearchFault::Memory) => return Err(Fault::Memory),
+    };
+    match write_tail(&site, &plan, out) {
+        Ok(()) => Ok(plan.claim),
+        Err(_) => Err(Fault::Write),
     }
 }
 
+/// Appends what stands before the items: the site's lines and the budget.
+fn write_head<O: Sink>(site: &Site, budget: u32, out: &mut O) -> Result<(), Failed>
+    ensures { Writes result (O.taken out.old) (O.taken out.new) (O.faults out.old) (O.faults out.new)
+        (site_lines site.now ++ line (codes "budget" ∷ decimal budget ∷ [])) }
+{
+    write_site(site, out)?;
+    write_budget(budget, out)
+}
+
+/// Appends what stands behind the items: the layout, the claim and the last line.
+fn write_tail<O: Sink>(site: &Site, plan: &Plan, out: &mut O) -> Result<(), Failed>
+    requires cables { All (IsCableOf site.now) plan.now.layout }
+    requires claim { IsClaimOf site.now plan.now.claim }
+    ensures { Writes result (O.taken out.old) (O.taken out.new) (O.faults out.old) (O.faults out.new)
+        (layout_text site.now plan.now.layout ++ (claim_line site.now plan.now.claim ++ line (codes "end" ∷ codes "document" ∷ []))) }
+{
+    write_layout(site, &plan.layout, out)?;
+    write_claim(site, plan.claim, out)
+}
+
 /// How a plan ends that was printed with this claim.
-pub(crate) fn ending_of(claim: Claim) -> Ending
+fn ending_of(claim: Claim) -> Ending
     requires { IsFinal claim }
     ensures { EndsWith result claim }
 {

@@ -6,17 +6,38 @@ ghost use Rattle.cable_program.specs.Words.{texts};
 use cable_definitions::command::Command;
 use cable_text::read_number;
 
-/// What the program is asked to do, where the words are a command that is built: so far the two words
-/// `plan N`, with a budget N from 8,191 to 50,000 nodes in its one spelling. It is `None` exactly where
-/// they are no such command. No memory is taken.
+/// What the program is asked to do, where the words are a command that is built: so far `plan N`, with a
+/// budget N from 8,191 to 50,000 nodes in its one spelling, `check`, `site`, `judge` and `report`. It is
+/// `None` exactly where they are no such command. No memory is taken.
 pub fn words_of(words: &[String]) -> Option<Command>
     ensures command { IfSome result (IsBuiltWords (texts words.now)) }
     ensures none { IfNone result (IsNoCommand (texts words.now)) }
 {
     match words {
+        [only] => command_of(only.as_bytes()),
         [first, second] => plan_of(first.as_bytes(), second.as_bytes()),
         _ => None,
     }
+}
+
+/// The command of one word.
+fn command_of(word: &[u8]) -> Option<Command>
+    ensures command { IfSome result (IsBuiltWords (word.now ∷ [])) }
+    ensures none { IfNone result (IsNoCommand (word.now ∷ [])) }
+{
+    if word == b"check".as_slice() {
+        return Some(Command::Check);
+    }
+    if word == b"site".as_slice() {
+        return Some(Command::Site);
+    }
+    if word == b"judge".as_slice() {
+        return Some(Command::Judge);
+    }
+    if word == b"report".as_slice() {
+        return Some(Command::Report);
+    }
+    None
 }
 
 /// The plan that two words ask for.

@@ -1,12 +1,62 @@
-use Rattle.std.proofs.Common.{refl, inr, []}
-use Rattle.cable_definitions.specs.Text.{document_text}
-use Rattle.cable_definitions.specs.Plan.{IsPlanned}
+use Rattle.std.proofs.Common.{ap, arith}
+use Rattle.std.specs.Prelude.{Err}
+use Rattle.cable_text.proofs.Writing.{Rose-after}
+use Rattle.proof_laws.proofs.FewArcs.{few_points_few_nodes}
+use Rattle.cable_program.specs.Ends.{stream}
+use Rattle.cable_program.proofs.Plans.{cables_found, head_part, items_part, tail_part, printed_whole}
 use Rattle.cable_program.proofs.plan.print_plan.Goals as goal
+
+pub returns-in-Err-write_head : goal.returns-in-Err-write_head
+returns-in-Err-write_head g c =
+    let before = c.args.out.now in
+    let after = c.write_head.new.out in (
+      c.in-Err-write_head.ensures.failed,
+      head_part _ (stream (g.O.Sink.taken before) (g.O.Sink.taken after) (g.O.Sink.faults before) (g.O.Sink.faults after)) c.in-Ok.site c.args.budget c.in-Ok-new.arcs
+          c.in-Ok.ensures c.in-Ok-new.ensures c.in-Err-write_head.ensures.part,
+    )
+
+pub search-requires-clause-enough : goal.search-requires-clause-enough
+search-requires-clause-enough g c =
+    let few = few_points_few_nodes c.in-Ok.site c.in-Ok-new.arcs c.in-Ok-new.ensures c.in-Ok.ensures.built in
+    let enough = c.requires.enough in
+    omega (arith, few, enough)
+
+pub returns-in-Err-Write : goal.returns-in-Err-Write
+returns-in-Err-Write g c =
+    let before = c.args.out.now in
+    let after = c.search.new.out in (
+      Rose-after _ _ _ c.in-Ok-write_head.ensures.count (c.in-Err-Write.ensures.failed (ap Err c.in-Err-Write.field-0-is)),
+      items_part _ (stream (g.O.Sink.taken before) (g.O.Sink.taken after) (g.O.Sink.faults before) (g.O.Sink.faults after)) _ c.in-Ok.site c.args.budget c.in-Ok-new.arcs
+          c.in-Ok.ensures c.in-Ok-new.ensures c.in-Ok-write_head.ensures.ok c.in-Err-Write.ensures.part,
+    )
+
+pub returns-in-Err-Memory : goal.returns-in-Err-Memory
+returns-in-Err-Memory g c =
+    let before = c.args.out.now in
+    let after = c.search.new.out in
+    items_part _ (stream (g.O.Sink.taken before) (g.O.Sink.taken after) (g.O.Sink.faults before) (g.O.Sink.faults after)) _ c.in-Ok.site c.args.budget c.in-Ok-new.arcs
+    c.in-Ok.ensures c.in-Ok-new.ensures c.in-Ok-write_head.ensures.ok c.in-Err-Memory.ensures.part
+
+pub write_tail-requires-clause-cables : goal.write_tail-requires-clause-cables
+write_tail-requires-clause-cables g c = cables_found _ _ _ _ _ _ _ c.in-Ok-search.ensures.plan
+
+pub returns-in-Ok-write_tail : goal.returns-in-Ok-write_tail
+returns-in-Ok-write_tail g c =
+    let before = c.args.out.now in
+    let after = c.write_tail.new.out in
+    let enough = c.requires.enough in (
+      printed_whole _ (stream (g.O.Sink.taken before) (g.O.Sink.taken after) (g.O.Sink.faults before) (g.O.Sink.faults after)) _ _ c.in-Ok.site c.args.budget c.in-Ok-new.arcs
+          c.in-Ok-search.plan.layout c.in-Ok-search.plan.claim (omega (arith, enough)) c.requires.most
+          c.in-Ok.ensures c.in-Ok-new.ensures c.in-Ok-write_head.ensures.ok c.in-Ok-search.ensures.plan c.in-Ok-write_tail.ensures.ok,
+      c.in-Ok-search.ensures.plan.final,
+    )
 
 pub returns : goal.returns
 returns g c =
-    let read = c.in_ok-site.ensures in
-    let plan = c.in-Ok.ensures in
-    let text = document_text c.in_ok-site.site c.args.budget [] c.in-Ok.layout c.in-Ok.claim in
-    let planned : IsPlanned c.in_ok-site.site c.args.budget text c.in-Ok.claim = record { cables = c.in-Ok.layout; text = refl; in_order = plan.in_order; layout = plan.layout; says = plan.says } in
-    (c.in-Err.ensures.failed, inr (text, c.in-Ok.claim, record { site = c.in_ok-site.site; valid = read.valid; built = read.built; read = read.text; whole = read.whole; planned = planned }, c.in-Err.ensures.part))
+    let before = c.args.out.now in
+    let after = c.write_tail.new.out in (
+      Rose-after _ _ _ c.in-Ok-write_head.ensures.count (Rose-after _ _ _ c.in-Ok-search.ensures.count c.in-Err-write_tail.ensures.failed),
+      tail_part _ (stream (g.O.Sink.taken before) (g.O.Sink.taken after) (g.O.Sink.faults before) (g.O.Sink.faults after)) _ _ c.in-Ok.site c.args.budget c.in-Ok-new.arcs
+          c.in-Ok-search.plan.layout c.in-Ok-search.plan.claim
+          c.in-Ok.ensures c.in-Ok-new.ensures c.in-Ok-write_head.ensures.ok c.in-Ok-search.ensures.plan c.in-Err-write_tail.ensures.part,
+    )

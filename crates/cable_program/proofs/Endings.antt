@@ -1,0 +1,62 @@
+-- From what a command gives, and what is noted of its fault, to how it ends.
+use Rattle.std.proofs.Common.{◌≡◌, ℕ, sym, subst, ⊎_elim, inl, inr}
+use Rattle.std.specs.Prelude.{Err}
+use Rattle.cable_program.specs.declared.ending.Ending.{Ending}
+use Rattle.cable_program.specs.declared.fault.Fault.{Fault}
+use Rattle.cable_program.specs.declared.fault.Fault.TheVariants.{OfSite, OfDocument, Read, Write, Memory}
+use Rattle.cable_program.specs.Ends.{Stream, PlanEnds, CheckEnds, SiteEnds, JudgeEnds, ReportEnds}
+use Rattle.cable_program.specs.Noted.{IsNoted}
+use Rattle.cable_program.specs.PlanSteps.{PlanGives}
+use Rattle.cable_program.specs.DocumentSteps.{CheckGives, ReportGives}
+use Rattle.cable_program.specs.SiteSteps.{SiteGives}
+use Rattle.cable_program.specs.JudgeSteps.{JudgeGives}
+
+ends_so : (Ends : Ending → Type 0) (ending other : Ending) → ending ≡ other → Ends other → Ends ending
+ends_so Ends ending other e h = subst Ends (sym e) h
+
+pub plan_ends : (n : ℕ) (input out note : Stream) (fault : Fault) (ending : Ending) → PlanGives n input out (Err fault) → IsNoted fault note ending → PlanEnds n input out note ending
+plan_ends n input out note (OfSite code place) ending h m =
+    ⊎_elim (λ told. ends_so (PlanEnds n input out note) ending _ told.0 (code, place, h.0, h.1, told.1))
+    (λ untold. ends_so (PlanEnds n input out note) ending _ untold.0 (inr (h.1, (code, place, untold.1)))) m
+plan_ends n input out note (OfDocument refusal) ending h m = absurd h
+plan_ends n input out note Read ending h m = ends_so (PlanEnds n input out note) ending _ m.0 (h.0, h.1, m.1)
+plan_ends n input out note Write ending h m = ends_so (PlanEnds n input out note) ending _ m.0 (inl (h.0, h.1, m.1))
+plan_ends n input out note Memory ending h m = ends_so (PlanEnds n input out note) ending _ m.0 (h, m.1)
+
+pub check_ends : (input out note : Stream) (fault : Fault) (ending : Ending) → CheckGives input out (Err fault) → IsNoted fault note ending → CheckEnds input out note ending
+check_ends input out note (OfSite code place) ending h m = absurd h
+check_ends input out note (OfDocument refusal) ending h m =
+    ⊎_elim (λ told. ends_so (CheckEnds input out note) ending _ told.0 (refusal.line, refusal.cause, h.0, h.1, told.1))
+    (λ untold. ends_so (CheckEnds input out note) ending _ untold.0 (inr (h.1, (refusal.line, refusal.cause, untold.1)))) m
+check_ends input out note Read ending h m = ends_so (CheckEnds input out note) ending _ m.0 (h.0, h.1, m.1)
+check_ends input out note Write ending h m = ends_so (CheckEnds input out note) ending _ m.0 (inl (h.0, h.1, m.1))
+check_ends input out note Memory ending h m = ends_so (CheckEnds input out note) ending _ m.0 (h, m.1)
+
+pub site_ends : (input out note : Stream) (fault : Fault) (ending : Ending) → SiteGives input out (Err fault) → IsNoted fault note ending → SiteEnds input out note ending
+site_ends input out note (OfSite code place) ending h m =
+    ⊎_elim (λ told. ends_so (SiteEnds input out note) ending _ told.0 (code, place, h.0, h.1, told.1))
+    (λ untold. ends_so (SiteEnds input out note) ending _ untold.0 (inr (h.1, (code, place, untold.1)))) m
+site_ends input out note (OfDocument refusal) ending h m = absurd h
+site_ends input out note Read ending h m = ends_so (SiteEnds input out note) ending _ m.0 (h.0, h.1, m.1)
+site_ends input out note Write ending h m = ends_so (SiteEnds input out note) ending _ m.0 (inl (h.0, h.1, m.1))
+site_ends input out note Memory ending h m = ends_so (SiteEnds input out note) ending _ m.0 (h, m.1)
+
+pub judge_ends : (input out note : Stream) (fault : Fault) (ending : Ending) → JudgeGives input out (Err fault) → IsNoted fault note ending → JudgeEnds input out note ending
+judge_ends input out note (OfSite code place) ending h m =
+    ⊎_elim (λ told. ends_so (JudgeEnds input out note) ending _ told.0 (code, place, h.0, h.1, told.1))
+    (λ untold. ends_so (JudgeEnds input out note) ending _ untold.0 (inr (h.1, inl (code, place, untold.1)))) m
+judge_ends input out note (OfDocument refusal) ending h m =
+    ⊎_elim (λ told. ends_so (JudgeEnds input out note) ending _ told.0 (refusal.line, refusal.cause, h.0, h.1, told.1))
+    (λ untold. ends_so (JudgeEnds input out note) ending _ untold.0 (inr (h.1, inr (refusal.line, refusal.cause, untold.1)))) m
+judge_ends input out note Read ending h m = ends_so (JudgeEnds input out note) ending _ m.0 (h.0, h.1, m.1)
+judge_ends input out note Write ending h m = ends_so (JudgeEnds input out note) ending _ m.0 (inl (h.0, h.1, m.1))
+judge_ends input out note Memory ending h m = ends_so (JudgeEnds input out note) ending _ m.0 (h, m.1)
+
+pub report_ends : (input out note : Stream) (fault : Fault) (ending : Ending) → ReportGives input out (Err fault) → IsNoted fault note ending → ReportEnds input out note ending
+report_ends input out note (OfSite code place) ending h m = absurd h
+report_ends input out note (OfDocument refusal) ending h m =
+    ⊎_elim (λ told. ends_so (ReportEnds input out note) ending _ told.0 (refusal.line, refusal.cause, h.0, h.1, told.1))
+    (λ untold. ends_so (ReportEnds input out note) ending _ untold.0 (inr (h.1, (refusal.line, refusal.cause, untold.1)))) m
+report_ends input out note Read ending h m = ends_so (ReportEnds input out note) ending _ m.0 (h.0, h.1, m.1)
+report_ends input out note Write ending h m = ends_so (ReportEnds input out note) ending _ m.0 (inl (h.0, h.1, m.1))
+report_ends input out note Memory ending h m = ends_so (ReportEnds input out note) ending _ m.0 (h, m.1)

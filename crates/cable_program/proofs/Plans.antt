@@ -1,0 +1,157 @@
+-- The text of a plan from its parts, and what its writers ask for.
+use Rattle.std.proofs.Common.{◌≡◌, ℕ, ◌<◌, ◌≤◌, inr, List, [], ◌∷◌, ◌++◌, length, map, get_or, Option, refl, sym, ap, ◌∙◌, subst, append_assoc, arith}
+use Rattle.std.specs.Prelude.{◌^◌, All, AllPairs, codes}
+use Rattle.std.specs.List.{concat}
+use Rattle.std.specs.Fmt.{decimal}
+use Rattle.std.proofs.lemmas.List.Sums.{sum_by-le}
+use Rattle.std.proofs.lemmas.Option.{slice_get-get_or}
+use Rattle.cable_definitions.specs.declared.cable.Cable.{Cable}
+use Rattle.cable_definitions.specs.declared.cable.Arc.{Arc}
+use Rattle.cable_definitions.specs.declared.claim.Claim.{Claim}
+use Rattle.cable_definitions.specs.declared.claim.Claim.TheVariants.{Optimal, Gap, Partial, Infeasible}
+use Rattle.cable_definitions.specs.Site.{Site, IsValid}
+use Rattle.cable_definitions.specs.Arcs.{AreArcs, cost_of}
+use Rattle.cable_definitions.specs.Walk.{load}
+use Rattle.cable_definitions.specs.Layout.{IsLegal, cost}
+use Rattle.cable_definitions.specs.Tree.{Item, Kept, IsAccepted, LayoutAgrees, nothing_kept}
+use Rattle.cable_definitions.specs.Text.{line, site_lines, item_lines, cable_line, claim_line, document_text}
+use Rattle.cable_definitions.specs.Document.{IsClaimInRange}
+use Rattle.cable_definitions.specs.Plan.{IsPlanned}
+use Rattle.cable_text.specs.Stream.{Appends, AppendsPrefix}
+use Rattle.cable_text.proofs.Writing.{Appends-then, AppendsPrefix-front, AppendsPrefix-then}
+use Rattle.layout_meaning.proofs.Costing.{cost_small, load_small_at}
+use Rattle.document_laws.proofs.Counting.{cables-most}
+use Rattle.proof_laws.proofs.Sound.{sound-accepted, says-sound}
+use Rattle.proof_text.specs.Written.{IsCableOf, IsClaimOf, layout_text}
+use Rattle.tree_search.specs.Found.{IsFinal, FindsPlan, WritesPart}
+use Rattle.cable_program.specs.Ends.{Stream, IsRead, PrintsPlan, PrintsPart}
+
+-- ---- parts of the text
+-- what stands before the items
+abbrev pub head_text : Site → ℕ → List ℕ
+head_text s n = site_lines s ++ line (codes "budget" ∷ decimal n ∷ [])
+
+-- what stands behind them
+abbrev pub tail_text : Site → List Cable → Claim → List ℕ
+tail_text s cables claim = layout_text s cables ++ (claim_line s claim ++ line (codes "end" ∷ codes "document" ∷ []))
+
+joined : (h i l c v e : List ℕ) → ((((h ++ i) ++ l) ++ c) ++ v) ++ e ≡ (h ++ i) ++ ((l ++ c) ++ (v ++ e))
+joined h i l c v e = append_assoc (((h ++ i) ++ l) ++ c) v e ∙ (ap (λ x. x ++ (v ++ e)) (append_assoc (h ++ i) l c) ∙ append_assoc (h ++ i) (l ++ c) (v ++ e))
+
+-- a document is what stands before its items, the items, and what stands behind them
+document_parts : (s : Site) (n : ℕ) (items : List Item) (cables : List Cable) (claim : Claim)
+    → document_text s n items cables claim ≡ (head_text s n ++ concat (map item_lines items)) ++ tail_text s cables claim
+document_parts s n items cables claim =
+    joined (head_text s n) (concat (map item_lines items)) (line (codes "layout" ∷ decimal (length cables) ∷ [])) (concat (map (cable_line s) cables)) (claim_line s claim)
+    (line (codes "end" ∷ codes "document" ∷ []))
+
+-- ---- what the writers ask for
+-- the cables of a legal layout have their ends among the points
+cables_of_legal : (s : Site) (cables : List Cable) → IsLegal s cables → All (IsCableOf s) cables
+cables_of_legal s cables legal k d h =
+    let at = slice_get-get_or cables k d h in
+    record { from = (legal.range k).from (get_or cables k d) at; to = (legal.range k).to (get_or cables k d) at }
+
+no_cables : (s : Site) (cables : List Cable) → cables ≡ [] → All (IsCableOf s) cables
+no_cables s cables e = let P : List Cable → Type 0 = λ xs. All (IsCableOf s) xs in subst P (sym e) (λ k d h. absurd (omega (arith, h)))
+
+cables_agree : (s : Site) (cables : List Cable) (claim : Claim) → LayoutAgrees s cables claim → IsFinal claim → All (IsCableOf s) cables
+cables_agree s cables (Optimal cost) a f = cables_of_legal s cables a.0
+cables_agree s cables (Gap cost bound) a f = absurd f
+cables_agree s cables (Partial bound stuck) a f = absurd f
+cables_agree s cables Infeasible a f = no_cables s cables a
+
+-- the cables that were found have their ends among the points
+pub cables_found : (s : Site) (arcs : List Arc) (n : ℕ) (before after : Option (List ℕ)) (cables : List Cable) (claim : Claim) → FindsPlan s arcs n before after cables claim → All (IsCableOf s) cables
+cables_found s arcs n before after cables claim found = cables_agree s cables claim found.agrees.0 found.final
+
+final_named : (s : Site) (claim : Claim) → IsFinal claim → IsClaimOf s claim
+final_named s (Optimal cost) f = tt
+final_named s (Gap cost bound) f = absurd f
+final_named s (Partial bound stuck) f = absurd f
+final_named s Infeasible f = tt
+
+-- the claim that was found names no point
+pub claim_found : (s : Site) (arcs : List Arc) (n : ℕ) (before after : Option (List ℕ)) (cables : List Cable) (claim : Claim) → FindsPlan s arcs n before after cables claim → IsClaimOf s claim
+claim_found s arcs n before after cables claim found = final_named s claim found.final
+
+-- ---- costs
+-- a legal layout whose cables ascend costs less than 2 ^ 63
+cost_in_range : (s : Site) (cables : List Cable) → IsValid s → AllPairs (λ c d. c.from < d.from) cables → IsLegal s cables → cost s cables < 2 ^ 63
+cost_in_range s cables valid order legal =
+    let most = cables-most (length s.points) cables order (λ k d h. (legal.range k).from (get_or cables k d) (slice_get-get_or cables k d h)) in
+    let each = sum_by-le (λ (c : Cable). cost_of s c.from c.to c.grade (load s cables c.from)) 28400000000000000 cables
+    (λ k d h. cost_small s (get_or cables k d).from (get_or cables k d).to (get_or cables k d).grade (load s cables (get_or cables k d).from) valid
+    (load_small_at s cables k (get_or cables k d) valid (slice_get-get_or cables k d h) legal.capacity)) in
+    let points = valid.points_count in
+    omega (arith, most, each, points)
+
+claim_in_range : (s : Site) (cables : List Cable) (claim : Claim) → IsValid s → AllPairs (λ c d. c.from < d.from) cables → LayoutAgrees s cables claim → IsFinal claim → IsClaimInRange claim
+claim_in_range s cables (Optimal best) valid order a f = subst (λ (c : ℕ). c < 2 ^ 63) a.1 (cost_in_range s cables valid order a.0)
+claim_in_range s cables (Gap best bound) valid order a f = absurd f
+claim_in_range s cables (Partial bound stuck) valid order a f = absurd f
+claim_in_range s cables Infeasible valid order a f = tt
+
+-- ---- what was printed
+-- a first part of the text of a plan that was begun
+begun : (input out : Stream) (s : Site) (n : ℕ) (arcs : List Arc) (items : List Item) (kept : Kept) (cables : List Cable) (claim : Claim) → IsRead input s → AreArcs s arcs
+    → IsAccepted s arcs n items kept → AppendsPrefix out.before out.after ((head_text s n ++ concat (map item_lines items)) ++ tail_text s cables claim) → PrintsPart n input out
+begun input out s n arcs items kept cables claim read are accepted part =
+    inr (
+      s,
+      document_text s n items cables claim,
+      read,
+      record { arcs = arcs; are_arcs = are; items = items; kept = kept; accepted = accepted; cables = cables; claim = claim; text_is = refl },
+      subst (λ (text : List ℕ). AppendsPrefix out.before out.after text) (sym (document_parts s n items cables claim)) part,
+    )
+
+-- a first part of what stands before the items
+pub head_part : (input out : Stream) (s : Site) (n : ℕ) (arcs : List Arc) → IsRead input s → AreArcs s arcs → AppendsPrefix out.before out.after (head_text s n) → PrintsPart n input out
+head_part input out s n arcs read are part =
+    begun input out s n arcs [] nothing_kept [] Infeasible read are refl
+    (AppendsPrefix-front out.before out.after (head_text s n ++ []) (tail_text s [] Infeasible) (AppendsPrefix-front out.before out.after (head_text s n) [] part))
+
+-- what stands before the items, and a first part of these
+pub items_part : (input out : Stream) (middle : Option (List ℕ)) (s : Site) (n : ℕ) (arcs : List Arc) → IsRead input s → AreArcs s arcs → Appends out.before middle (head_text s n)
+    → WritesPart s arcs n middle out.after → PrintsPart n input out
+items_part input out middle s n arcs read are first part =
+    begun input out s n arcs part.items part.kept [] Infeasible read are part.accepted
+    (AppendsPrefix-front out.before out.after (head_text s n ++ concat (map item_lines part.items)) (tail_text s [] Infeasible)
+    (AppendsPrefix-then out.before middle out.after (head_text s n) (concat (map item_lines part.items)) first part.written))
+
+-- what stands before the items and these, and a first part of what stands behind them
+pub tail_part : (input out : Stream) (middle later : Option (List ℕ)) (s : Site) (n : ℕ) (arcs : List Arc) (cables : List Cable) (claim : Claim) → IsRead input s → AreArcs s arcs
+    → Appends out.before middle (head_text s n) → FindsPlan s arcs n middle later cables claim → AppendsPrefix later out.after (tail_text s cables claim) → PrintsPart n input out
+tail_part input out middle later s n arcs cables claim read are first found part =
+    begun input out s n arcs found.items found.kept cables claim read are found.accepted
+    (AppendsPrefix-then out.before later out.after (head_text s n ++ concat (map item_lines found.items)) (tail_text s cables claim)
+    (Appends-then out.before middle later (head_text s n) (concat (map item_lines found.items)) first found.written) part)
+
+-- the whole text
+pub printed_whole : (input out : Stream) (middle later : Option (List ℕ)) (s : Site) (n : ℕ) (arcs : List Arc) (cables : List Cable) (claim : Claim) → 1 ≤ n → n ≤ 50000 → IsRead input s → AreArcs s arcs
+    → Appends out.before middle (head_text s n) → FindsPlan s arcs n middle later cables claim → Appends later out.after (tail_text s cables claim) → PrintsPlan n input out claim
+printed_whole input out middle later s n arcs cables claim least most read are first found last =
+    let text = document_text s n found.items cables claim in
+    let planned : IsPlanned s n text claim = record {
+      document = record {
+        arcs = arcs;
+        budget = n;
+        items = found.items;
+        cables = cables;
+        kept = found.kept;
+        valid = read.valid;
+        are_arcs = are;
+        is_budget = (least, most);
+        text = refl;
+        in_order = found.in_order;
+        accepted = found.accepted;
+        built = found.built;
+        in_range = claim_in_range s cables claim read.valid found.in_order found.agrees.0 found.final;
+        agrees = found.agrees;
+      };
+      budget_is = refl;
+      says = says-sound s arcs n found.kept cables claim (sound-accepted s arcs n found.items found.kept read.valid are found.accepted) found.agrees;
+    } in
+    let all = Appends-then out.before later out.after (head_text s n ++ concat (map item_lines found.items)) (tail_text s cables claim)
+    (Appends-then out.before middle later (head_text s n) (concat (map item_lines found.items)) first found.written) last in
+    (s, text, read, planned, subst (λ (bytes : List ℕ). Appends out.before out.after bytes) (sym (document_parts s n found.items cables claim)) all)

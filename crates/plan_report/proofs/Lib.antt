@@ -1,0 +1,10 @@
+-- the number of digits
+pub mod Digits
+-- spaces and columns
+pub mod Spacing
+-- writers of numbered items
+pub mod Numbering
+-- the lines of a report, and its parts
+pub mod Lines
+-- legal layouts can be reported
+pub mod Legal

@@ -1,0 +1,11 @@
+use Rattle.std.proofs.Common.{Ok, take, map}
+use Rattle.std.specs.List.{concat}
+use Rattle.cable_definitions.specs.Report.{report_cable}
+use Rattle.cable_text.specs.declared.stream.Failed.{Failed}
+use Rattle.cable_text.specs.Stream.{Writes}
+use Rattle.plan_report.proofs.write.push_cables.Given as goal
+
+abbrev pub invariant-loop-cable : goal.invariant-loop-cable
+invariant-loop-cable g l =
+    Writes {A = Unit {0}} {E = Failed} (Ok tt) (g.O.Sink.taken l.initial.out) (g.O.Sink.taken l.out) (g.O.Sink.faults l.initial.out) (g.O.Sink.faults l.out)
+    (concat (map (report_cable l.site l.cables) (take l.cable-index l.cables)))

@@ -1,0 +1,12 @@
+use Rattle.std.proofs.Common.{ℕ, Ok, take, map}
+use Rattle.std.specs.List.{concat, enumerate_from}
+use Rattle.cable_definitions.specs.declared.site.Point.{Point}
+use Rattle.cable_definitions.specs.Report.{report_point}
+use Rattle.cable_text.specs.declared.stream.Failed.{Failed}
+use Rattle.cable_text.specs.Stream.{Writes}
+use Rattle.plan_report.proofs.write.push_points.Given as goal
+
+abbrev pub invariant-loop-p : goal.invariant-loop-p
+invariant-loop-p g l =
+    Writes {A = Unit {0}} {E = Failed} (Ok tt) (g.O.Sink.taken l.initial.out) (g.O.Sink.taken l.out) (g.O.Sink.faults l.initial.out) (g.O.Sink.faults l.out)
+    (concat (map (λ (q : ℕ × Point). report_point l.site l.cables q.0 q.1.name q.1.kind) (take l.p (enumerate_from 0 l.site.points))))

@@ -1,0 +1,11 @@
+//! The report of a plan: its cables, what each type and each substation bears, and its verdict.
+#![tactic(auto)]
+
+mod columns;
+mod sums;
+mod write;
+
+pub use write::report;
+
+#[cfg(test)]
+mod tests;
