@@ -28,20 +28,20 @@ pub record IsUnbuiltFault (s : Site) (code : SiteCode) (place : ℕ) : Type 0 wh
 -- whether rows of a kind are read so far
 abbrev pub is_built_kind : RowKind → Bool
 is_built_kind Out = true
-is_built_kind Flow = false
+is_built_kind Flow = true
 is_built_kind Inlet = true
 is_built_kind Bend = true
-is_built_kind Power = false
+is_built_kind Power = true
 is_built_kind One = false
 is_built_kind Cut = false
 
 -- the most weights that a work has so far
 abbrev pub most_weights : ℕ
-most_weights = 0
+most_weights = 1024
 
 -- whether a verdict that leaves a turbine unjoined is read so far
 abbrev pub is_open_built : Bool
-is_open_built = false
+is_open_built = true
 
 -- an item that is read so far
 abbrev pub IsBuiltItem : Item → Type 0

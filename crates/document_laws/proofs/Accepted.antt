@@ -18,24 +18,18 @@ use Rattle.cable_definitions.specs.Row.{Row}
 use Rattle.cable_definitions.specs.Choice.{IsValue}
 use Rattle.cable_definitions.specs.Tree.{Item, RowItem, WorkItem, Kept, Node, WasSplit, Stopped, WasDead, WasFull, worked, child, marks_of, IsBound, IsActed, IsWorked, IsListed, Accepts, Agrees}
 use Rattle.cable_definitions.specs.Refusal.{IsRowRefused, IsWorkable, IsActRefused, IsWorkRefused, IsClaimRefused}
-use Rattle.proof_laws.proofs.NearestValue.{value-same}
+use Rattle.proof_laws.proofs.NearestValue.{value-same, bound-same}
 use Rattle.proof_laws.proofs.FullNodes.{full-one}
 
 -- ---- what an accepted item leaves is determined
-bound_same : (parent : ℕ) (value : ℤ) (b c : ℕ) → IsBound parent value b → IsBound parent value c → b ≡ c
-bound_same parent value b c h k =
-    let l = h.least c k.parent k.value_below in
-    let m = k.least b h.parent h.value_below in
-    omega (arith, l, m)
-
 acted_same : (s : Site) (arcs : List Arc) (kept : Kept) (v : ℕ) (node : Node) (value : ℤ) (act : Act) (nodes others : List Node)
     → IsActed s arcs kept v node value act nodes → IsActed s arcs kept v node value act others → nodes ≡ others
 acted_same s arcs kept v node value (Split a) nodes others (b, h, free, e) (c, k, kept_free, f) =
-    e ∙ ap (λ (bound : ℕ). slice_set kept.nodes (v - 1) (worked node bound WasSplit) ++ child v bound a Used ∷ child v bound a Unused ∷ []) (bound_same node.bound value b c h k) ∙ sym f
+    e ∙ ap (λ (bound : ℕ). slice_set kept.nodes (v - 1) (worked node bound WasSplit) ++ child v bound a Used ∷ child v bound a Unused ∷ []) (bound-same node.bound value b c h k) ∙ sym f
 acted_same s arcs kept v node value Stop nodes others (b, h, e) (c, k, f) =
-    e ∙ ap (λ (bound : ℕ). slice_set kept.nodes (v - 1) (worked node bound Stopped)) (bound_same node.bound value b c h k) ∙ sym f
+    e ∙ ap (λ (bound : ℕ). slice_set kept.nodes (v - 1) (worked node bound Stopped)) (bound-same node.bound value b c h k) ∙ sym f
 acted_same s arcs kept v node value (DeadAct why) nodes others (b, h, dead, e) (c, k, dies, f) =
-    e ∙ ap (λ (bound : ℕ). slice_set kept.nodes (v - 1) (worked node bound WasDead)) (bound_same node.bound value b c h k) ∙ sym f
+    e ∙ ap (λ (bound : ℕ). slice_set kept.nodes (v - 1) (worked node bound WasDead)) (bound-same node.bound value b c h k) ∙ sym f
 acted_same s arcs kept v node value FullAct nodes others (xs, h, e) (ys, k, f) =
     e ∙ ap (λ (cables : List Cable). slice_set kept.nodes (v - 1) (worked node (cost s cables) WasFull)) (full-one s arcs (marks_of arcs kept.nodes v) xs ys h k) ∙ sym f
 

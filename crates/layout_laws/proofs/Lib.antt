@@ -2,6 +2,8 @@
 pub mod Alike
 -- lists of cables with the same arcs in one order, one more cable, and other types
 pub mod Arcs
+-- a legal layout keeps each rule, so none is broken
+pub mod Legal
 -- walks step by step
 pub mod Walking
 -- visits and loads point by point

@@ -12,21 +12,12 @@ use Rattle.layout_laws.specs.Alike.{StartsDiffer, SameEnds}
 use Rattle.layout_laws.specs.Typable.{IsTypable, with_cable}
 use Rattle.layout_laws.proofs.Alike.{load-same, Keeps-same, Starts-same, ends_in_range-same}
 use Rattle.layout_laws.proofs.Arcs.{SameEnds-from_arcs}
+use Rattle.layout_laws.proofs.Legal.{kept_where_legal}
 use Rattle.layout_laws.proofs.Typing.{IsCheapOrNone, cheapest_of, cheapest-le, IsCheapest-same, borne-le_largest, some_bears, all-at, matched, SameArcs-turned, SameArcs-further, StartsDiffer-arcs, sum_by-le_matched, some_cheap_typed}
 
 -- a legal layout is a grown part
 pub IsGrown-legal : (s : Site) (cables : List Cable) → IsLegal s cables → IsGrown s cables
-IsGrown-legal s cables g Range i j n = g.range i
-IsGrown-legal s cables g Candidate i j n = g.candidate i
-IsGrown-legal s cables g Start i j n = g.start i
-IsGrown-legal s cables g Unjoined i j n = absurd (n refl)
-IsGrown-legal s cables g Bend i j n = g.bend i
-IsGrown-legal s cables g Lost i j n = g.ends i
-IsGrown-legal s cables g Overload i j n = g.capacity i
-IsGrown-legal s cables g Feeders i j n = g.feeders i
-IsGrown-legal s cables g Power i j n = g.power i
-IsGrown-legal s cables g Branch i j n = g.string i
-IsGrown-legal s cables g Clash i j n = g.clear i j
+IsGrown-legal s cables g rule i j n = kept_where_legal s cables g rule i j
 
 -- a grown part that joins all turbines is legal
 pub IsLegal-grown : (s : Site) (cables : List Cable) → IsGrown s cables → ((p : ℕ) → KeepsJoined s cables p) → IsLegal s cables

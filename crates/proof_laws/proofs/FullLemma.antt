@@ -46,7 +46,7 @@ pub record NoReason (s : Site) (arcs : List Arc) (rows : List Row) (marks : List
   pub no_reason : (why : Why) → ¬ (IsDead s arcs rows marks bound why)
 
 -- a row with one member is well formed where it speaks of a point of the site
-row_at-formed : (s : Site) (arcs : List Arc) (kind : RowKind) (m : ℕ) → kind ≢ One → kind ≢ Cut → m < member_count s arcs kind → IsTrue (speaks_of kind (kind_of s m)) → IsWellFormed s arcs (row_at kind m)
+pub row_at-formed : (s : Site) (arcs : List Arc) (kind : RowKind) (m : ℕ) → kind ≢ One → kind ≢ Cut → m < member_count s arcs kind → IsTrue (speaks_of kind (kind_of s m)) → IsWellFormed s arcs (row_at kind m)
 row_at-formed s arcs kind m none nor within speaks SomeMember i j = λ e. cc
 row_at-formed s arcs kind m none nor within speaks RightCount i j = ((λ t. refl), omega arith)
 row_at-formed s arcs kind m none nor within speaks InRange zero j = λ n e. let same : m ≡ n = cc in subst (λ (k : ℕ). k < member_count s arcs kind) same within

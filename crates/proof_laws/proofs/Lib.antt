@@ -36,7 +36,7 @@ pub mod Growing
 pub mod NoArc
 -- works and what is left of them
 pub mod WorkCounts
--- weights have one value, and weights on the rows of turbines can have at least the sum of the least costs out of them
+-- weights have one value and make one bound, and weights on the rows of turbines can have at least the sum of the least costs out of them
 pub mod NearestValue
 -- bounds never fall
 pub mod Rising
@@ -44,3 +44,5 @@ pub mod Rising
 pub mod TurbineWeights
 -- a site of few points has few candidate arcs
 pub mod FewArcs
+-- sums of extremes over the choices of each arc
+pub mod Extremes

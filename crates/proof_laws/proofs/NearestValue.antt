@@ -1,4 +1,4 @@
--- Weights have one value in a box, and weights on the rows of turbines alone can have a value of at least the sum of the least costs out of them.
+-- Weights have one value in a box, and make one bound; and weights on the rows of turbines alone can have a value of at least the sum of the least costs out of them.
 use Rattle.std.proofs.Common.{◌≡◌, ◌≢◌, ℕ, suc, ◌+◌, ◌*◌, ◌^◌, ◌<◌, ◌≤◌, ◌⊎◌, inl, inr, Bool, true, false, cond, eqb, ℤ, pos, ◌+ℤ◌, ◌-ℤ◌, ◌*ℤ◌, ◌≤ℤ◌, List, [], ◌∷◌, length, sum, slice_get, Some, None, Option, refl, ap, sym, ◌∙◌, subst, arith}
 use Rattle.std.specs.Prelude.{◌||◌, IsTrue}
 use Rattle.std.specs.List.{range_with_len}
@@ -18,6 +18,7 @@ use Rattle.cable_definitions.specs.Arcs.{kind_of, kind_from, is_turbine, power_o
 use Rattle.cable_definitions.specs.Budget.{IsLeastOut, LeastOutAt, AreLeastOut, IsNearest}
 use Rattle.cable_definitions.specs.Row.{Row, is_member, one_if, on_use, on_load, right, speaks_of, has_one_member, member_count, RightCount, InRange, RightKind, IsWellFormed}
 use Rattle.cable_definitions.specs.Choice.{Choice, NoCable, Carries, least_load, IsChoice, at_row, sum_weighted, weighted_on_use, weighted_on_load, reduced_cost, AtMost, AreExtremes, IsValue}
+use Rattle.cable_definitions.specs.Tree.{IsBound}
 use Rattle.number_laws.proofs.Ring.{var, nat, minus, times, same_value, at_most}
 use Rattle.number_laws.proofs.Sums.{sum_int, sum_int-cons, sum_int-zero, sum_int-same, sum_int-same_on, sum_int-one_of}
 use Rattle.layout_laws.proofs.Monotone.{cost_of-le}
@@ -54,6 +55,13 @@ value-same s arcs rows marks weights a b v w =
     let x = v.is_least.sum in
     let y = w.is_least.sum in
     omega (arith, ints, same, p, q, x, y)
+
+-- and a value makes one bound
+pub bound-same : (parent : ℕ) (value : ℤ) (a b : ℕ) → IsBound parent value a → IsBound parent value b → a ≡ b
+bound-same parent value a b h k =
+    let l = h.least b k.parent k.value_below in
+    let m = k.least a h.parent h.value_below in
+    omega (arith, l, m)
 
 -- ---- values where no choice leaves less than nothing
 -- least values that aren't negative have a sum that isn't
@@ -112,7 +120,7 @@ pub record IsTurbineRow (s : Site) (members : List ℕ) : Type 0 where
   pub turbine_there : IsTrue (is_turbine (kind_of s turbine))
 
 -- its one member is a turbine
-out-row : (s : Site) (arcs : List Arc) (row : Row) → row.kind ≡ Out → IsWellFormed s arcs row → IsTurbineRow s row.members
+pub out-row : (s : Site) (arcs : List Arc) (row : Row) → row.kind ≡ Out → IsWellFormed s arcs row → IsTurbineRow s row.members
 out-row s arcs row e formed = by row.kind row.members e (λ i. (formed RightCount i 0).0) (λ i. formed InRange i 0) (λ i. formed RightKind i 0)
   where
     by : (kind : RowKind) (members : List ℕ) → kind ≡ Out → (ℕ → IsTrue (has_one_member kind) → length members ≡ 1)

@@ -94,7 +94,7 @@ bounds-stay s arcs n m items more old new valid are accepted l h =
     above-by_number m new.nodes (above-leads s arcs n m more old new valid are (sound-accepted s arcs n items old valid are accepted) l (λ i x e. h (suc i) x e))
 
 -- without works there is node 1 alone
-unworked-root : (s : Site) (arcs : List Arc) (n : ℕ) (items : List Item) (old new : Kept) → Leads s arcs n old items new → (old.works ≡ 0 → old.nodes ≡ root ∷ []) → new.works ≡ 0 → new.nodes ≡ root ∷ []
+pub unworked-root : (s : Site) (arcs : List Arc) (n : ℕ) (items : List Item) (old new : Kept) → Leads s arcs n old items new → (old.works ≡ 0 → old.nodes ≡ root ∷ []) → new.works ≡ 0 → new.nodes ≡ root ∷ []
 unworked-root s arcs n [] old new l h e = ap (λ (k : Kept). k.nodes) l ∙ h (sym (ap (λ (k : Kept). k.works) l) ∙ e)
 unworked-root s arcs n (RowItem row ∷ items) old new l h e = unworked-root s arcs n items l.0 new l.2 (λ f. l.1.nodes ∙ h (sym l.1.works ∙ f)) e
 unworked-root s arcs n (WorkItem v weights act ∷ items) old new l h e =
