@@ -1,7 +1,8 @@
 -- The first place at which something isn't kept.
-use Rattle.std.specs.Prelude.{ℕ, ◌<◌, List}
+use Rattle.std.specs.Prelude.{◌≢◌, ℕ, ◌<◌, List}
 use Rattle.cable_definitions.specs.declared.cable.Cable.{Cable}
 use Rattle.cable_definitions.specs.declared.cable.Rule.{Rule}
+use Rattle.cable_definitions.specs.declared.cable.Rule.TheVariants.{Unjoined}
 use Rattle.cable_definitions.specs.Layout.{IsCable, IsBefore, Keeps, rule_number}
 use Rattle.cable_definitions.specs.Site.{Site}
 
@@ -27,6 +28,6 @@ pub record IsFirstPair (Kept : ℕ → ℕ → Type 0) (i j : ℕ) : Type 0 wher
   pub broken : ¬ (Kept i j)
   pub earlier : (k l : ℕ) → IsBefore k l i j → Kept k l
 
--- all rules of a number below n are kept
+-- all rules of a number below n but `Unjoined` are kept
 abbrev pub KeepsBelow : Site → List Cable → ℕ → Type 0
-KeepsBelow s cables n = (rule : Rule) (i j : ℕ) → rule_number rule < n → Keeps s cables rule i j
+KeepsBelow s cables n = (rule : Rule) (i j : ℕ) → rule ≢ Unjoined → rule_number rule < n → Keeps s cables rule i j

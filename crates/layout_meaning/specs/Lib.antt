@@ -10,3 +10,9 @@ pub mod Loads
 pub mod Order
 -- what a verdict says of a list of cables
 pub mod Verdict
+-- cables with the cheapest types at known loads
+pub mod Typed
+-- arcs that are added to a grown part
+pub mod Joining
+-- grown parts that have their cheapest types
+pub mod Partial

@@ -3,7 +3,7 @@ use std::alloc::{AllocError, Global};
 use std::marker::Model;
 
 /// The most cables of a layout.
-const MOST_CABLES: usize = 256;
+pub(crate) const MOST_CABLES: usize = 256;
 
 /// A layout has 256 cables already.
 #[derive(Clone, Copy, Debug, PartialEq, Eq, thiserror::Error)]
@@ -77,6 +77,17 @@ impl Layout {
         ensures { self.new ≡ [] }
     {
         self.cables.clear();
+    }
+
+    /// Replaces the cables by these. It takes no memory.
+    pub fn replace(&mut self, cables: &[Cable])
+        requires { length cables.now ≤ 256 }
+        ensures { self.new ≡ cables.now }
+    {
+        self.clear();
+        for cable in cables {
+            let _ = self.push(*cable);
+        }
     }
 
     /// Puts the cables in ascending order of start, then end, then type. It takes no memory.

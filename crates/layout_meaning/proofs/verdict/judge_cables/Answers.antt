@@ -1,21 +1,44 @@
-use Rattle.std.proofs.Common.{List, subst, arith}
+use Rattle.std.proofs.Common.{ℕ, List, subst, sym}
 use Rattle.cable_definitions.specs.declared.cable.Cable.{Cable}
 use Rattle.cable_definitions.specs.declared.cable.Rule.TheVariants.{Range, Overload}
-use Rattle.layout_meaning.specs.First.{KeepsBelow}
-use Rattle.layout_meaning.proofs.Verdicts.{legal_from}
+use Rattle.cable_definitions.specs.Layout.{KeepsJoined}
+use Rattle.cable_definitions.specs.Part.{IsGrown, IsFirstBrokenOfPart}
+use Rattle.layout_meaning.specs.First.{IsFirst}
+use Rattle.layout_meaning.specs.Verdict.{IsVerdict}
+use Rattle.layout_laws.proofs.Typed.{IsLegal-grown}
+use Rattle.layout_meaning.proofs.Verdicts.{whole_early, whole_joined, unjoined_at}
 use Rattle.layout_meaning.proofs.verdict.judge_cables.Goals as goal
+
+pub returns-in-Some : goal.returns-in-Some
+returns-in-Some c =
+    subst (IsVerdict c.args.site.now c.args.cables.now) (sym c.broken.ensures)
+    (whole_early c.args.site.now c.args.cables.now c.in-Some.breach.rule c.in-Some.breach.a c.in-Some.breach.b c.in-Some.ensures.first c.in-Some.ensures.early)
+
+pub returns-in-Some-first_unjoined : goal.returns-in-Some-first_unjoined
+returns-in-Some-first_unjoined c =
+    unjoined_at c.args.site.now c.args.cables.now c.in-Some-first_unjoined.p c.in_default.ensures.none
+    (subst (λ (cables : List Cable). IsFirst (KeepsJoined c.args.site.now cables) c.in-Some-first_unjoined.p) c.new-outgoing.ensures c.in-Some-first_unjoined.ensures.first)
 
 pub total_cost-requires-clause-range : goal.total_cost-requires-clause-range
 total_cost-requires-clause-range c =
-    let kept = subst (λ (cables : List Cable). KeepsBelow c.args.site.now cables 12) c.new-outgoing.ensures c.in-None.ensures.none in
-    λ i. kept Range i 0 (omega arith)
+    let grown = subst (IsGrown c.args.site.now) c.new-outgoing.ensures c.in-None.ensures.none in
+    λ i. grown Range i 0 (λ x. absurd (cc))
 
 pub total_cost-requires-clause-capacity : goal.total_cost-requires-clause-capacity
 total_cost-requires-clause-capacity c =
-    let kept = subst (λ (cables : List Cable). KeepsBelow c.args.site.now cables 12) c.new-outgoing.ensures c.in-None.ensures.none in
-    λ p. kept Overload p 0 (omega arith)
+    let grown = subst (IsGrown c.args.site.now) c.new-outgoing.ensures c.in-None.ensures.none in
+    λ p. grown Overload p 0 (λ x. absurd (cc))
+
+pub returns-in-Some-breach_of_farm : goal.returns-in-Some-breach_of_farm
+returns-in-Some-breach_of_farm c =
+    let breach = c.in-Some-breach_of_farm.breach in
+    let first = subst (λ (cables : List Cable). IsFirstBrokenOfPart c.args.site.now cables breach.rule breach.a breach.b) c.new-outgoing.ensures c.in-Some-breach_of_farm.ensures.first in
+    let joined = λ (p : ℕ). subst (λ (cables : List Cable). KeepsJoined c.args.site.now cables p) c.new-outgoing.ensures (c.in_default-first_unjoined.ensures.none p) in
+    subst (IsVerdict c.args.site.now c.args.cables.now) (sym c.broken-in-Some-breach_of_farm.ensures)
+    (whole_joined c.args.site.now c.args.cables.now breach.rule breach.a breach.b first joined)
 
 pub returns-in-None : goal.returns-in-None
 returns-in-None c =
-    let kept = subst (λ (cables : List Cable). KeepsBelow c.args.site.now cables 12) c.new-outgoing.ensures c.in-None.ensures.none in
-    (legal_from c.args.site.now c.args.cables.now kept, c.total_cost.ensures)
+    let grown = subst (IsGrown c.args.site.now) c.new-outgoing.ensures c.in-None.ensures.none in
+    let joined = λ (p : ℕ). subst (λ (cables : List Cable). KeepsJoined c.args.site.now cables p) c.new-outgoing.ensures (c.in_default-first_unjoined.ensures.none p) in
+    (IsLegal-grown c.args.site.now c.args.cables.now grown joined, c.total_cost.ensures)

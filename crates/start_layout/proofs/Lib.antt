@@ -1,0 +1,10 @@
+-- types chosen one after another
+pub mod Choosing
+-- neighbours made by one arc
+pub mod Moving
+-- ends that close a circle
+pub mod GoingRound
+-- straight cables and the straight layout
+pub mod Straightening
+-- turbines that are refused everywhere
+pub mod Refusing

@@ -1,0 +1,8 @@
+use Rattle.start_layout.specs.Moves.{AllMakeNoneBelow, IsMoveOrNone}
+use Rattle.start_layout.proofs.settling.best_move.Given as goal
+
+abbrev pub invariant-loop-number : goal.invariant-loop-number
+invariant-loop-number l = record {
+  below : AllMakeNoneBelow l.site l.arcs l.cables l.number l.least;
+  best : IsMoveOrNone l.site l.cables l.least l.best;
+}

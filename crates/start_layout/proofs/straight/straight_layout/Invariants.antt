@@ -1,0 +1,5 @@
+use Rattle.start_layout.specs.Straight.{AreStraightBelow}
+use Rattle.start_layout.proofs.straight.straight_layout.Given as goal
+
+abbrev pub invariant-loop-turbine : goal.invariant-loop-turbine
+invariant-loop-turbine l = AreStraightBelow l.site l.turbine l.layout

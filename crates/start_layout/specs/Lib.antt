@@ -1,0 +1,6 @@
+-- one cable ended elsewhere, and what that makes
+pub mod Moves
+-- straight cables, substation by substation, and the straight layout, turbine by turbine
+pub mod Straight
+-- layouts to begin with
+pub mod Starting

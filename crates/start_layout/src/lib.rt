@@ -1,0 +1,14 @@
+//! Legal layouts that a search starts from.
+#![tactic(auto)]
+
+mod circles;
+mod growing;
+mod settling;
+mod starting;
+mod straight;
+#[cfg(test)]
+mod tests;
+mod types;
+
+pub use settling::improve_layout;
+pub use starting::{Start, greedy};
