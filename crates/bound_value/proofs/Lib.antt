@@ -1,4 +1,8 @@
 -- the greatest costs of arcs, arc by arc
 pub mod GreatestCosts
--- the least costs of choices, and their sum
-pub mod Values
+-- lawful weights, weight by weight
+pub mod LawfulWeights
+-- the least that the uses of an arc leave of their costs
+pub mod LeastUses
+-- weighted sums, weight by weight, and how large they are
+pub mod Weighing

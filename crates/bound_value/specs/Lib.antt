@@ -1,2 +1,4 @@
--- the least cost of a choice
+-- a weight that may stand on a row
+pub mod Lawful
+-- the least that a choice leaves of its cost
 pub mod Least

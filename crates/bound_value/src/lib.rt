@@ -1,14 +1,18 @@
 //! The decisions of a node, weights on rows, and the bound that they give.
 #![tactic(auto)]
 
+mod choices;
 mod decisions;
 mod greatest;
+mod lawfulness;
 mod value;
 mod weights;
 
 pub use cable_definitions::row::Mark;
+pub use choices::least_choice;
 pub use decisions::Decisions;
 pub use greatest::ceiling;
+pub use lawfulness::lawful;
 pub use value::{rounded_bound, weigh};
 pub use weights::{Weights, WeightsFull};
 

@@ -1,59 +1,101 @@
 //! The value of weights in a node's box, and the bound that it gives.
 
-ghost use Rattle.std.specs.Prelude.{◌≡◌, ℕ, ◌*◌, ◌^◌, ◌≤◌, ◌<◌, pos, ◌≤ℤ◌, [], length, unsigned_abs, slice_get, Some};
-ghost use Rattle.cable_definitions.specs.Arcs.{IsCandidate, AreArcs};
-ghost use Rattle.cable_definitions.specs.Choice.{IsValue, least_load as least_load_of};
+ghost use Rattle.std.specs.Prelude.{◌≡◌, ℕ, ◌*◌, ◌^◌, ◌≤◌, ◌<◌, pos, ◌*ℤ◌, ◌≤ℤ◌, ◌<ℤ◌, length, unsigned_abs, slice_get, Some};
+ghost use Rattle.cable_definitions.specs.declared.cable.Arc.{Arc as AnArc};
+ghost use Rattle.cable_definitions.specs.Arcs.{AreArcs};
+ghost use Rattle.cable_definitions.specs.Row.{right};
+ghost use Rattle.cable_definitions.specs.Choice.{AreLawful, AtMost, IsSumOfExtremes, IsValue, reduced_cost, sum_weighted, weighted_on_use, weighted_on_load};
 ghost use Rattle.cable_definitions.specs.Tree.{IsBound};
-ghost use Rattle.site_model.specs.Best.{most_cost};
-ghost use Rattle.bound_value.specs.Least.{IsLeastCost};
 
-use crate::{Decisions, Mark, Weights};
+use crate::{Decisions, Weights, least_choice};
 use cable_rows::RowPool;
-use candidate_cables::{Arc, Arcs};
-use site_model::{Kind, Site};
+use candidate_cables::Arcs;
+use site_model::Site;
 
 /// How many units of a weight or a value make a cost unit.
 const UNITS: u128 = 1_048_576;
 
-/// The least load in power units out of a point.
-fn least_load(kind: Kind) -> u32
-    ensures { result ≡ least_load_of kind }
-{
-    match kind {
-        Kind::Turbine { power } => power,
-        _ => 1,
-    }
+/// What weighted rows count a use of an arc as, and what they count each unit of its load as.
+#[derive(Clone, Copy)]
+struct Counts {
+    on_use: i128,
+    on_load: i128,
 }
 
-/// The least cost of a choice that uses the arc.
-fn least_used(site: &Site, arc: Arc) -> u64
-    requires { IsCandidate site.now arc.from arc.to }
-    ensures least { IsLeastCost site.now arc Mark.Used result }
-    ensures most { result ≤ most_cost }
+/// A count of a row times the row's weight.
+fn weighted(weight: i128, count: i64) -> i128
+    requires weight { unsigned_abs weight ≤ 2 ^ 76 }
+    requires count { unsigned_abs count ≤ 76800000 }
+    ensures product { result ≡ weight *ℤ count }
+    ensures small { unsigned_abs result ≤ 2 ^ 76 * unsigned_abs count }
 {
-    let load = least_load(site.points()[arc.from as usize].kind);
-    match site.cheapest(arc.from, arc.to, load) {
-        Some((_, cost)) => cost,
-        // Some type bears the least load out of the start of a candidate arc.
-        None => 0,
-    }
+    weight * i128::from(count)
 }
 
-/// The least cost of a choice of the arc that its mark leaves.
-fn least_cost(site: &Site, arc: Arc, mark: Mark) -> u64
-    requires { IsCandidate site.now arc.from arc.to }
-    ensures least { IsLeastCost site.now arc mark result }
-    ensures most { result ≤ most_cost }
+/// What the weighted rows count an arc as.
+fn weighted_counts(site: &Site, arcs: &Arcs, pool: &RowPool, weights: &Weights, arc: u32) -> Counts
+    requires arcs { AreArcs site.now arcs.now }
+    requires lawful { AreLawful pool.now weights.now }
+    requires arc { arc < length arcs.now }
+    ensures on_use { (a : AnArc) → slice_get arcs.now arc ≡ Some a → result.on_use ≡ weighted_on_use pool.now weights.now arc a }
+    ensures on_load { (a : AnArc) → slice_get arcs.now arc ≡ Some a → result.on_load ≡ weighted_on_load pool.now weights.now a }
+    ensures on_use_small { unsigned_abs result.on_use ≤ 2 ^ 86 }
+    ensures on_load_small { unsigned_abs result.on_load ≤ 2 ^ 86 }
 {
-    match mark {
-        Mark::Used => least_used(site, arc),
-        Mark::Free | Mark::Unused => 0,
+    let mut sum = Counts {
+        on_use: 0,
+        on_load: 0,
+    };
+    for weight in weights.as_slice() {
+        let (on_use, on_load) = pool.coefficients(site, arcs, weight.0, arc);
+        sum = Counts {
+            on_use: sum.on_use + weighted(weight.1, i64::from(on_use)),
+            on_load: sum.on_load + weighted(weight.1, i64::from(on_load)),
+        };
     }
+    sum
 }
 
-/// The value of weights on listed rows in the box of these decisions, over 2^20 of a cost unit: the weighted sum of the rows' right sides,
-/// and the sum over the arcs of the least that a choice leaves of its cost. Only the empty list of weights is valued so far; its value is
-/// the sum of the least costs of the arcs that are marked used. The arcs are those of the site, with one mark each. It takes no memory.
+/// The weighted sum of the right sides of the weighted rows.
+fn weighted_right_sides(site: &Site, pool: &RowPool, weights: &Weights) -> i128
+    requires { AreLawful pool.now weights.now }
+    ensures sum { result ≡ sum_weighted (λ row. right site.now row.kind row.members) pool.now weights.now }
+    ensures small { unsigned_abs result ≤ 1024 * (2 ^ 76 * 76800000) }
+{
+    let mut sum: i128 = 0;
+    for weight in weights.as_slice() {
+        sum += weighted(weight.1, pool.right(site, weight.0));
+    }
+    sum
+}
+
+/// The sum over the arcs of the least that a choice leaves of its cost.
+fn least_choices(
+    site: &Site,
+    arcs: &Arcs,
+    pool: &RowPool,
+    decisions: &Decisions,
+    weights: &Weights,
+) -> i128
+    requires arcs { AreArcs site.now arcs.now }
+    requires marks { length decisions.now ≡ length arcs.now }
+    requires lawful { AreLawful pool.now weights.now }
+    ensures sum { IsSumOfExtremes AtMost site.now arcs.now decisions.now (reduced_cost site.now pool.now weights.now) result }
+    ensures small { unsigned_abs result ≤ 65280 * 10 ^ 30 }
+{
+    let mut sum: i128 = 0;
+    for arc in 0..arcs.len() {
+        let counts = weighted_counts(site, arcs, pool, weights, arc);
+        let mark = decisions.mark(arc);
+        sum += least_choice(site, arcs, arc, mark, counts.on_use, counts.on_load);
+    }
+    sum
+}
+
+/// The value of weights in the box of a node's decisions, over 2^20 of a cost unit: the weighted sum of the right sides of the weighted rows
+/// and, over the arcs, the least that a choice leaves of its cost. The weights have to be lawful; then the 2^20th part of their value is at
+/// most the cost of each legal layout in the box, which `values_are_bounds` in proof_laws proves. The arcs are those of the site, with one
+/// mark each. It takes no memory.
 pub fn weigh(
     site: &Site,
     arcs: &Arcs,
@@ -63,16 +105,11 @@ pub fn weigh(
 ) -> i128
     requires arcs { AreArcs site.now arcs.now }
     requires marks { length decisions.now ≡ length arcs.now }
-    requires no_weights { weights.now ≡ [] }
+    requires lawful { AreLawful pool.now weights.now }
     ensures value { IsValue site.now arcs.now pool.now decisions.now weights.now result }
-    ensures at_least { pos 0 ≤ℤ result }
-    ensures at_most { result ≤ℤ pos (2 ^ 20 * (65280 * most_cost)) }
+    ensures small { unsigned_abs result ≤ 10 ^ 36 }
 {
-    let mut total: u128 = 0;
-    for arc in 0..arcs.len() {
-        total += u128::from(least_cost(site, arcs.get(arc), decisions.mark(arc)));
-    }
-    (total * UNITS) as i128
+    weighted_right_sides(site, pool, weights) + least_choices(site, arcs, pool, decisions, weights)
 }
 
 /// The least number of cost units that is at least a value over 2^20 of a cost unit: 0 for a value below 0.
@@ -80,7 +117,7 @@ fn cost_units(value: i128) -> u128
     requires { unsigned_abs value ≤ 10 ^ 36 }
     ensures enough { value ≤ℤ pos (2 ^ 20 * result) }
     ensures least { (m : ℕ) → value ≤ℤ pos (2 ^ 20 * m) → result ≤ m }
-    ensures most { result ≤ 10 ^ 36 }
+    ensures most { result < 2 ^ 100 }
 {
     if value <= 0 {
         return 0;
@@ -95,6 +132,7 @@ pub fn rounded_bound(parent: i128, value: i128) -> i128
     requires value { unsigned_abs value ≤ 10 ^ 36 }
     ensures bound { IsBound (unsigned_abs parent) value (unsigned_abs result) }
     ensures at_least { pos 0 ≤ℤ result }
+    ensures small { parent <ℤ pos (2 ^ 100) → result <ℤ pos (2 ^ 100) }
 {
     parent.max(cost_units(value) as i128)
 }

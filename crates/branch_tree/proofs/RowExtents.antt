@@ -1,11 +1,10 @@
 -- The least and the greatest that a row counts, arc by arc and in all.
-use Rattle.std.proofs.Common.{◌≡◌, ℕ, zero, suc, ◌+◌, ◌*◌, ◌≤◌, List, [], ◌∷◌, ◌++◌, length, take, slice_get, Some, ℤ, pos, negsuc, ◌+ℤ◌, ◌*ℤ◌, ◌≤ℤ◌, ◌<ℤ◌, to_z, of_z, inl, inr, ◌⊎◌, arith, refl, sym, ap, ◌∙◌, subst}
+use Rattle.std.proofs.Common.{◌≡◌, ℕ, suc, ◌+◌, ◌*◌, ◌≤◌, List, [], ◌∷◌, ℤ, pos, negsuc, ◌+ℤ◌, ◌*ℤ◌, ◌≤ℤ◌, ◌<ℤ◌, to_z, of_z, inl, inr, ◌⊎◌, arith, refl, sym, ap, ◌∙◌, subst}
 use Rattle.std.specs.Prelude.{IsTrue}
 use Rattle.std.specs.Int.{w64}
 use Rattle.std.proofs.Math.Nat.{mul-le-mul_left}
 use Rattle.std.proofs.lemmas.Nat.{mul-le}
 use Rattle.std.proofs.lemmas.Int.{ints, to_z-of_z}
-use Rattle.std.proofs.lemmas.List.{take_all}
 use Rattle.cable_definitions.specs.declared.cable.Arc.{Arc}
 use Rattle.cable_definitions.specs.declared.row.Mark.{Mark}
 use Rattle.cable_definitions.specs.declared.row.Mark.TheVariants.{Free, Used, Unused}
@@ -17,7 +16,7 @@ use Rattle.cable_definitions.specs.Row.{Row, on_use, on_load, right, is_equation
 use Rattle.cable_definitions.specs.Choice.{Choice, NoCable, Carries, least_load, IsChoice, IsExtreme, AtMost, AtLeast, AreExtremes, IsSumOfExtremes}
 use Rattle.cable_definitions.specs.Tree.{counted, CannotMeet}
 use Rattle.number_laws.proofs.Ring.{var, nat, plus, times, same_value, at_most}
-use Rattle.number_laws.proofs.Sums.{sum_int, sum_int-cons, sum_int-append}
+use Rattle.number_laws.proofs.Sums.{sum_int}
 use Rattle.layout_laws.proofs.Typing.{some_bears}
 use Rattle.proof_laws.proofs.Points.{largest_capacity-some, capacity-most}
 use Rattle.branch_tree.specs.Extents.{used_value, IsExtremeUse, IsWithin}
@@ -164,38 +163,6 @@ extreme_of_unused R same s row n a = record {
     beyond (Carries grade l) h = absurd (h.0 refl)
 
 -- ---- all arcs
--- one extreme more
-extremes_more : (R : ℤ → ℤ → Type 0) (s : Site) (f : ℕ → Arc → Choice → ℤ) (n i : ℕ) (arcs : List Arc) (marks : List Mark) (a : Arc) (m : Mark) (zs : List ℤ) (z : ℤ) → slice_get arcs i ≡ Some a → slice_get marks i ≡ Some m
-    → AreExtremes R s f n (take i arcs) (take i marks) zs → IsExtreme R s a m (f (n + i) a) z → AreExtremes R s f n (take (suc i) arcs) (take (suc i) marks) (zs ++ z ∷ [])
-extremes_more R s f n i [] marks a m zs z e g x y = absurd (cc)
-extremes_more R s f n i (b ∷ arcs) [] a m zs z e g x y = absurd (cc)
-extremes_more R s f n zero (b ∷ arcs) (k ∷ marks) a m [] z e g x y =
-    let p : a ≡ b = cc in
-    let q : m ≡ k = cc in
-    (subst (λ (mark : Mark). IsExtreme R s b mark (f n b) z) q (subst (λ (arc : Arc). IsExtreme R s arc m (f n arc) z) p (subst (λ (j : ℕ). IsExtreme R s a m (f j a) z) (let o : n + 0 ≡ n = omega arith in o) y)), tt)
-extremes_more R s f n zero (b ∷ arcs) (k ∷ marks) a m (w ∷ zs) z e g x y = absurd x
-extremes_more R s f n (suc i) (b ∷ arcs) (k ∷ marks) a m [] z e g x y = absurd x
-extremes_more R s f n (suc i) (b ∷ arcs) (k ∷ marks) a m (w ∷ zs) z e g x y =
-    (x.0, extremes_more R s f (n + 1) i arcs marks a m zs z e g x.1 (subst (λ (j : ℕ). IsExtreme R s a m (f j a) z) (let o : n + suc i ≡ n + 1 + i = omega arith in o) y))
-
--- the sum of one extreme more
-pub sum_more : (R : ℤ → ℤ → Type 0) (s : Site) (f : ℕ → Arc → Choice → ℤ) (i : ℕ) (arcs : List Arc) (marks : List Mark) (a : Arc) (m : Mark) (total z : ℤ) → slice_get arcs i ≡ Some a → slice_get marks i ≡ Some m
-    → IsSumOfExtremes R s (take i arcs) (take i marks) f total → IsExtreme R s a m (f i a) z → IsSumOfExtremes R s (take (i + 1) arcs) (take (i + 1) marks) f (total +ℤ z)
-sum_more R s f i arcs marks a m total z e g x y =
-    subst (λ (j : ℕ). IsSumOfExtremes R s (take j arcs) (take j marks) f (total +ℤ z)) (let o : suc i ≡ i + 1 = omega arith in o)
-    (record {
-      extremes = x.extremes ++ z ∷ [];
-      are_extremes = extremes_more R s f 0 i arcs marks a m x.extremes z e g x.are_extremes (subst (λ (j : ℕ). IsExtreme R s a m (f j a) z) (let o : i ≡ 0 + i = omega arith in o) y);
-      sum = (let p = x.sum in omega (arith, ints, p, sum_int-append (λ (w : ℤ). w) x.extremes (z ∷ []), sum_int-cons (λ (w : ℤ). w) z []));
-    })
-
--- the sum over all arcs
-pub sum_all : (R : ℤ → ℤ → Type 0) (s : Site) (f : ℕ → Arc → Choice → ℤ) (i : ℕ) (arcs : List Arc) (marks : List Mark) (total : ℤ) → length arcs ≤ i → length marks ≡ length arcs
-    → IsSumOfExtremes R s (take i arcs) (take i marks) f total → IsSumOfExtremes R s arcs marks f total
-sum_all R s f i arcs marks total h e x =
-    subst (λ (ms : List Mark). IsSumOfExtremes R s arcs ms f total) (take_all i marks (omega arith))
-    (subst (λ (xs : List Arc). IsSumOfExtremes R s xs (take i marks) f total) (take_all i arcs h) x)
-
 -- sums of extremes are one, where a relation both ways is an equation
 pub sum_same : (R : ℤ → ℤ → Type 0) → ((x y : ℤ) → R x y → R y x → x ≡ y) → (s : Site) (arcs : List Arc) (marks : List Mark) (f : ℕ → Arc → Choice → ℤ) (x y : ℤ) → IsSumOfExtremes R s arcs marks f x → IsSumOfExtremes R s arcs marks f y → x ≡ y
 sum_same R anti s arcs marks f x y p q =

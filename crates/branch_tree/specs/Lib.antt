@@ -8,5 +8,3 @@ pub mod Used
 pub mod Reasons
 -- the least and the greatest that a row counts an arc as
 pub mod Extents
--- cables with the cheapest types at known loads
-pub mod Typed

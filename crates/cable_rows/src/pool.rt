@@ -1,4 +1,4 @@
-ghost use Rattle.std.specs.Prelude.{◌≡◌, ◌≢◌, ◌+◌, ◌≤◌, ◌<◌, ◌↔◌, ℕ, List, [], ◌∷◌, ◌++◌, length, sum_by, slice_get, Some, IfOk, OnOk, OnErr, IsOk, IsTrue, All, AllPairs, slice_index_or, false};
+ghost use Rattle.std.specs.Prelude.{◌≡◌, ◌≢◌, ◌+◌, ◌≤◌, ◌<◌, ◌↔◌, ℕ, List, [], ◌∷◌, ◌++◌, length, sum_by, unsigned_abs, slice_get, Some, IfOk, OnOk, OnErr, IsOk, IsTrue, All, AllPairs, slice_index_or, false};
 ghost use Rattle.cable_definitions.specs.declared.cable.Arc.{Arc as AnArc};
 ghost use Rattle.cable_definitions.specs.Arcs.{AreArcs};
 ghost use Rattle.cable_definitions.specs.Row.{Row, IsWellFormed, is_member, is_equation as is_equation_of, right as right_of, on_use, on_load};
@@ -109,7 +109,8 @@ impl RowPool {
     /// The right side of a row: a number of cables, or power units for `Flow` and `Power`.
     pub fn right(&self, site: &Site, row: u32) -> i64
         requires { row < length self.now }
-        ensures { (r : Row) → slice_get self.now row ≡ Some r → result ≡ right_of site.now r.kind r.members }
+        ensures value { (r : Row) → slice_get self.now row ≡ Some r → result ≡ right_of site.now r.kind r.members }
+        ensures small { unsigned_abs result ≤ 76800000 }
     {
         right_side(site, self.kind(row), self.members(row))
     }

@@ -1,6 +1,6 @@
 //! The right side of a row.
 
-ghost use Rattle.std.specs.Prelude.{◌≡◌, ◌≤◌, ◌*◌, length, sum_by};
+ghost use Rattle.std.specs.Prelude.{◌≡◌, ◌≤◌, ◌*◌, length, sum_by, unsigned_abs};
 ghost use Rattle.cable_definitions.specs.Site.{IsKind};
 ghost use Rattle.cable_definitions.specs.Arcs.{kind_of, power_of, largest_capacity as largest_capacity_of};
 ghost use Rattle.cable_definitions.specs.Row.{right as right_of, inlet_limit, power_limit, rounded_up as rounded_up_of};
@@ -121,7 +121,8 @@ fn rounded_up(n: u32, k: u32) -> u32
 /// The right side of a row.
 pub(crate) fn right_side(site: &Site, kind: RowKind, members: &[u32]) -> i64
     requires { length members.now ≤ 256 }
-    ensures { result ≡ right_of site.now kind members.now }
+    ensures value { result ≡ right_of site.now kind members.now }
+    ensures small { unsigned_abs result ≤ 76800000 }
 {
     match kind {
         RowKind::Out => 1,

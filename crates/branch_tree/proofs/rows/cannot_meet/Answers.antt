@@ -10,7 +10,7 @@ returns-then-left-right c = λ r e.
     let right_is = to_z-of_z w64 c.right-right.result fits in
     let left_is = back c.extent_of_row-left.result.greatest c.extent_of_row-left.ensures.greatest_small in
     let less : c.extent_of_row-left.result.greatest <ℤ c.right-right.result = omega (arith, ints, right_is, left_is) in (
-      λ t. cannot_above c.args.site.now c.args.arcs.now c.args.decisions.now r c.extent_of_row-left.result.greatest c.right-right.result (c.extent_of_row-left.ensures.greatest r e) (c.right-right.ensures r e) less,
+      λ t. cannot_above c.args.site.now c.args.arcs.now c.args.decisions.now r c.extent_of_row-left.result.greatest c.right-right.result (c.extent_of_row-left.ensures.greatest r e) (c.right-right.ensures.value r e) less,
       λ k. refl,
     )
 
@@ -23,7 +23,7 @@ returns-then-not-is_equation c = λ r e.
       λ t. absurd (cc),
       λ k.
           absurd (can_meet c.args.site.now c.args.arcs.now c.args.decisions.now r c.extent_of_row-left.result.least c.extent_of_row-left.result.greatest c.right-right.result (c.extent_of_row-left.ensures.least r e)
-          (c.extent_of_row-left.ensures.greatest r e) (c.right-right.ensures r e) enough (λ q. let g : false ≡ true = sym c.if-not-is_equation.true ∙ c.is_equation.ensures r e ∙ q in absurd (cc)) k),
+          (c.extent_of_row-left.ensures.greatest r e) (c.right-right.ensures.value r e) enough (λ q. let g : false ≡ true = sym c.if-not-is_equation.true ∙ c.is_equation.ensures r e ∙ q in absurd (cc)) k),
     )
 
 pub returns-then-right-left : goal.returns-then-right-left
@@ -32,7 +32,7 @@ returns-then-right-left c = λ r e.
     let right_is = to_z-of_z w64 c.right-right.result fits in
     let least_is = back c.extent_of_row-left.result.least c.extent_of_row-left.ensures.least_small in
     let less : c.right-right.result <ℤ c.extent_of_row-left.result.least = omega (arith, ints, right_is, least_is) in (
-      λ t. cannot_below c.args.site.now c.args.arcs.now c.args.decisions.now r c.extent_of_row-left.result.least c.right-right.result (c.extent_of_row-left.ensures.least r e) (c.right-right.ensures r e) (sym (c.is_equation.ensures r e) ∙ c.if-not-is_equation.false) less,
+      λ t. cannot_below c.args.site.now c.args.arcs.now c.args.decisions.now r c.extent_of_row-left.result.least c.right-right.result (c.extent_of_row-left.ensures.least r e) (c.right-right.ensures.value r e) (sym (c.is_equation.ensures r e) ∙ c.if-not-is_equation.false) less,
       λ k. refl,
     )
 
@@ -47,5 +47,5 @@ returns c = λ r e.
       λ t. absurd (cc),
       λ k.
           absurd (can_meet c.args.site.now c.args.arcs.now c.args.decisions.now r c.extent_of_row-left.result.least c.extent_of_row-left.result.greatest c.right-right.result (c.extent_of_row-left.ensures.least r e)
-          (c.extent_of_row-left.ensures.greatest r e) (c.right-right.ensures r e) enough (λ q. at_most) k),
+          (c.extent_of_row-left.ensures.greatest r e) (c.right-right.ensures.value r e) enough (λ q. at_most) k),
     )

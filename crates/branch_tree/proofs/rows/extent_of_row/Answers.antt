@@ -4,8 +4,9 @@ use Rattle.std.proofs.lemmas.Int.{ints}
 use Rattle.cable_definitions.specs.Choice.{AtMost, AtLeast, IsSumOfExtremes}
 use Rattle.cable_definitions.specs.Tree.{counted}
 use Rattle.proof_laws.proofs.Lists.{some_at}
+use Rattle.proof_laws.proofs.Extremes.{sum_more, sum_all}
 use Rattle.branch_tree.specs.Extents.{IsWithin}
-use Rattle.branch_tree.proofs.RowExtents.{back, wider, sum_more, sum_all}
+use Rattle.branch_tree.proofs.RowExtents.{back, wider}
 use Rattle.branch_tree.proofs.rows.extent_of_row.Goals as goal
 
 -- the sum of two small numbers as the program adds them

@@ -1,0 +1,8 @@
+-- the cost of an arc at the power of its start
+pub mod OwnCosts
+-- the least cost of the arcs that are left, arc by arc
+pub mod LeastLeft
+-- the weights of turbines, row by row
+pub mod Weighing
+-- the weights of turbines in the first node
+pub mod FirstNode
