@@ -1,8 +1,10 @@
--- Legal layouts can be reported.
+-- Legal layouts and grown parts can be reported.
 use Rattle.std.proofs.Common.{All, List, get_or, refl}
 use Rattle.cable_definitions.specs.declared.cable.Cable.{Cable}
 use Rattle.cable_definitions.specs.Site.{Site}
-use Rattle.cable_definitions.specs.Layout.{IsLegal}
+use Rattle.cable_definitions.specs.declared.cable.Rule.TheVariants.{Range, Overload}
+use Rattle.cable_definitions.specs.Layout.{IsLegal, KeepsRange, KeepsCapacity}
+use Rattle.cable_definitions.specs.Part.{IsGrown}
 use Rattle.layout_meaning.proofs.Places.{slice_get_at}
 use Rattle.plan_report.specs.Reported.{IsReported}
 
@@ -12,3 +14,12 @@ legal_reported s cables legal k d l =
     let c = get_or cables k d in
     let e = slice_get_at cables k d l in
     record { from = (legal.range k).from c e; to = (legal.range k).to c e; grade = (legal.range k).grade c e; borne = legal.capacity c.from k c e refl }
+
+-- so can those of a grown part
+pub grown_reported : (s : Site) (cables : List Cable) → IsGrown s cables → All (IsReported s cables) cables
+grown_reported s cables grown k d l =
+    let c = get_or cables k d in
+    let e = slice_get_at cables k d l in
+    let range : KeepsRange s cables k = grown Range k 0 (λ r. cc) in
+    let capacity : KeepsCapacity s cables c.from = grown Overload c.from 0 (λ r. cc) in
+    record { from = range.from c e; to = range.to c e; grade = range.grade c e; borne = capacity k c e refl }

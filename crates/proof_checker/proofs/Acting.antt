@@ -1,5 +1,5 @@
 -- Works that are done, and works that are refused for their act.
-use Rattle.std.proofs.Common.{◌≡◌, ℕ, ◌-◌, ◌<◌, inl, inr, ℤ, List, [], length, refl, sym, ap, ◌∙◌, subst, arith}
+use Rattle.std.proofs.Common.{◌≡◌, ℕ, ◌-◌, ◌<◌, ◌≤◌, inl, inr, ℤ, List, [], length, refl, sym, ap, ◌∙◌, subst, arith}
 use Rattle.std.specs.Prelude.{slice_set}
 use Rattle.std.specs.List.{enumerate_from}
 use Rattle.std.proofs.lemmas.List.{length-map}
@@ -17,7 +17,7 @@ use Rattle.cable_definitions.specs.Row.{Row}
 use Rattle.cable_definitions.specs.Choice.{AreLawful, IsValue}
 use Rattle.cable_definitions.specs.Tree.{Node, Kept, WasFull, mark_in, marks_of, worked, IsBound, IsDead, IsActed, IsWorked}
 use Rattle.cable_definitions.specs.Refusal.{IsWorkable, IsActRefused, IsWorkRefused, cause_number, IsLeastCause}
-use Rattle.proof_laws.proofs.NearestValue.{value-same}
+use Rattle.proof_laws.proofs.NearestValue.{value-same, bound-same}
 use Rattle.branch_tree.specs.State.{TreeState, nodes_after, tree_after, ActIsWithin}
 use Rattle.proof_checker.specs.State.{kept_from}
 use Rattle.proof_checker.specs.Acts.{MayAct, MayNotAct}
@@ -35,16 +35,6 @@ act_within s arcs rows marks bound after act h a e =
     slice_get_within marks a Free f.0
 
 -- ---- a work that is done
--- no weights are lawful
-lawful_none : (rows : List Row) → AreLawful rows []
-lawful_none rows = record {
-  ascending = λ i j d l m. absurd (omega (arith, m));
-  listed = λ k d l. absurd (omega (arith, l));
-  not_zero = λ k d l. absurd (omega (arith, l));
-  small = λ k d l. absurd (omega (arith, l));
-  signs = λ k d l. absurd (omega (arith, l));
-}
-
 acted : (s : Site) (arcs : List CandidateArc) (kept : Kept) (v : ℕ) (node : Node) (value : ℤ) (bound after : ℕ) (act : Act)
     → IsBound node.bound value bound → MayAct s arcs kept.rows (marks_of arcs kept.nodes v) bound act after
     → IsActed s arcs kept v node value act (nodes_after kept.nodes v node act after)
@@ -55,17 +45,17 @@ acted s arcs kept v node value bound after (DeadAct why) b may =
 acted s arcs kept v node value bound after FullAct b may =
     (may.0, may.1, ap (λ (c : ℕ). slice_set kept.nodes (v - 1) (worked node c WasFull)) may.2)
 
--- a work without weights whose act may be done is accepted
+-- a work with lawful weights whose act may be done is accepted
 pub work_done : (s : Site) (arcs : List CandidateArc) (n : ℕ) (rows : List Row) (tree : TreeState) (v : ℕ) (weights : List (ℕ × ℤ)) (act : Act) (node : Node) (value : ℤ) (bound after : ℕ)
-    → tree.works < n → IsWorkable (kept_from rows tree) v node → weights ≡ [] → IsValue s arcs rows (marks_of arcs tree.nodes v) weights value
+    → tree.works < n → IsWorkable (kept_from rows tree) v node → AreLawful rows weights → length weights ≤ 1024 → IsValue s arcs rows (marks_of arcs tree.nodes v) weights value
     → IsBound node.bound value bound → MayAct s arcs rows (marks_of arcs tree.nodes v) bound act after
     → IsWorked s arcs n (kept_from rows tree) v weights act (kept_from rows (tree_after tree v node act after))
-work_done s arcs n rows tree v weights act node value bound after room workable none is b may = record {
+work_done s arcs n rows tree v weights act node value bound after room workable lawful few is b may = record {
   node = node;
   made = workable.0;
   unworked = workable.1;
-  weights_count = omega (arith, ap length none);
-  lawful = subst (AreLawful rows) (sym none) (lawful_none rows);
+  weights_count = few;
+  lawful = lawful;
   within_budget = room;
   value = value;
   is_value = is;
@@ -103,19 +93,33 @@ earlier_act s arcs kept v weights FullAct Full l h = absurd (omega (arith, l))
 earlier_act s arcs kept v weights FullAct other l h = absurd h
 
 -- no cause comes before that of the act
-earlier_work : (s : Site) (arcs : List CandidateArc) (n : ℕ) (kept : Kept) (v : ℕ) (act : Act) (node : Node) → kept.works < n → IsWorkable kept v node
-    → (other : Cause) → cause_number other < own_number act → ¬ (IsWorkRefused s arcs n kept v [] act other)
-earlier_work s arcs n kept v act node room w Limit l (inl h) = omega (arith, h, room)
-earlier_work s arcs n kept v act node room w Limit l (inr h) = omega (arith, h)
-earlier_work s arcs n kept v act node room w NodeCause l h = h node w
-earlier_work s arcs n kept v act node room w Weight l h = h (lawful_none kept.rows)
-earlier_work s arcs n kept v act node room w other l h = earlier_act s arcs kept v [] act other l h
+earlier_work : (s : Site) (arcs : List CandidateArc) (n : ℕ) (kept : Kept) (v : ℕ) (weights : List (ℕ × ℤ)) (act : Act) (node : Node) → kept.works < n → IsWorkable kept v node
+    → AreLawful kept.rows weights → length weights ≤ 1024 → (other : Cause) → cause_number other < own_number act → ¬ (IsWorkRefused s arcs n kept v weights act other)
+earlier_work s arcs n kept v weights act node room w lawful few Limit l (inl h) = omega (arith, h, room)
+earlier_work s arcs n kept v weights act node room w lawful few Limit l (inr h) = omega (arith, h, few)
+earlier_work s arcs n kept v weights act node room w lawful few NodeCause l h = h node w
+earlier_work s arcs n kept v weights act node room w lawful few Weight l h = h lawful
+earlier_work s arcs n kept v weights act node room w lawful few other l h = earlier_act s arcs kept v weights act other l h
 
-bound_same : (parent : ℕ) (value : ℤ) (b c : ℕ) → IsBound parent value b → IsBound parent value c → b ≡ c
-bound_same parent value b c h k =
-    let l = h.least c k.parent k.value_below in
-    let m = k.least b h.parent h.value_below in
-    omega (arith, l, m)
+-- weights come before any act
+weight_first : (act : Act) (other : Cause) → cause_number other < 7 → cause_number other < own_number act
+unfolding own_number
+weight_first (Split a) other l = omega (arith, l)
+weight_first Stop other l = omega (arith, l)
+weight_first (DeadAct why) other l = omega (arith, l)
+weight_first FullAct other l = omega (arith, l)
+
+-- a work whose weights aren't lawful is refused for them
+pub weights_refused : (s : Site) (arcs : List CandidateArc) (n : ℕ) (kept : Kept) (v : ℕ) (weights : List (ℕ × ℤ)) (act : Act) (node : Node) → kept.works < n → IsWorkable kept v node
+    → length weights ≤ 1024 → ¬ (AreLawful kept.rows weights) → IsLeastCause (IsWorkRefused s arcs n kept v weights act) Weight
+weights_refused s arcs n kept v weights act node room w few unlawful = record { holds = unlawful; least = earlier }
+  where
+    earlier : (other : Cause) → cause_number other < 7 → ¬ (IsWorkRefused s arcs n kept v weights act other)
+    earlier Limit l (inl h) = omega (arith, h, room)
+    earlier Limit l (inr h) = omega (arith, h, few)
+    earlier NodeCause l h = h node w
+    earlier Weight l h = omega (arith, l)
+    earlier other l h = earlier_act s arcs kept v weights act other (weight_first act other l) h
 
 -- a reason that isn't true with the new bound is true with no bound that the work may give
 not_dead : (s : Site) (arcs : List CandidateArc) (kept : Kept) (v : ℕ) (weights : List (ℕ × ℤ)) (node : Node) (value : ℤ) (bound : ℕ) (d : Node) (e : ℤ) (b : ℕ)
@@ -125,7 +129,7 @@ not_dead s arcs kept v weights node value bound d e b w is k w2 is2 k2 =
     let same : d ≡ node = same_Some d node (sym w2.0 ∙ w.0) in
     let values : e ≡ value = value-same s arcs kept.rows (marks_of arcs kept.nodes v) weights e value is2 is in
     let first : IsBound node.bound e b = subst (λ (x : Node). IsBound x.bound e b) same k2 in
-    bound_same node.bound value b bound (subst (λ (z : ℤ). IsBound node.bound z b) values first) k
+    bound-same node.bound value b bound (subst (λ (z : ℤ). IsBound node.bound z b) values first) k
 
 held : (s : Site) (arcs : List CandidateArc) (n : ℕ) (kept : Kept) (v : ℕ) (weights : List (ℕ × ℤ)) (act : Act) (cause : Cause) (node : Node) (value : ℤ) (bound : ℕ)
     → IsWorkable kept v node → IsValue s arcs kept.rows (marks_of arcs kept.nodes v) weights value → IsBound node.bound value bound
@@ -137,12 +141,11 @@ held s arcs n kept v weights (DeadAct why) Dead node value bound w is b h =
 held s arcs n kept v weights FullAct Full node value bound w is b h = h
 held s arcs n kept v weights act cause node value bound w is b h = absurd h
 
--- a work without weights whose act may not be done is refused for that
+-- a work with lawful weights whose act may not be done is refused for that
 pub work_refused : (s : Site) (arcs : List CandidateArc) (n : ℕ) (kept : Kept) (v : ℕ) (weights : List (ℕ × ℤ)) (act : Act) (cause : Cause) (node : Node) (value : ℤ) (bound : ℕ)
-    → kept.works < n → IsWorkable kept v node → weights ≡ [] → IsValue s arcs kept.rows (marks_of arcs kept.nodes v) weights value → IsBound node.bound value bound
+    → kept.works < n → IsWorkable kept v node → AreLawful kept.rows weights → length weights ≤ 1024 → IsValue s arcs kept.rows (marks_of arcs kept.nodes v) weights value → IsBound node.bound value bound
     → MayNotAct s arcs kept.rows (marks_of arcs kept.nodes v) bound act cause → IsLeastCause (IsWorkRefused s arcs n kept v weights act) cause
-work_refused s arcs n kept v weights act cause node value bound room w none is b h = record {
+work_refused s arcs n kept v weights act cause node value bound room w lawful few is b h = record {
   holds = held s arcs n kept v weights act cause node value bound w is b h;
-  least = λ other l. subst (λ (ws : List (ℕ × ℤ)). ¬ (IsWorkRefused s arcs n kept v ws act other)) (sym none)
-      (earlier_work s arcs n kept v act node room w other (let e = own_cause s arcs kept.rows (marks_of arcs kept.nodes v) bound act cause h in omega (arith, l, e)));
+  least = λ other l. earlier_work s arcs n kept v weights act node room w lawful few other (let e = own_cause s arcs kept.rows (marks_of arcs kept.nodes v) bound act cause h in omega (arith, l, e));
 }

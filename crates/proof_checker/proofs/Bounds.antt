@@ -1,13 +1,12 @@
 -- There is one least bound, and a new bound fits.
-use Rattle.std.proofs.Common.{◌≡◌, ℕ, ◌-◌, ◌*◌, ◌^◌, ◌<◌, ◌≤◌, true, nat_eq, ℤ, pos, negsuc, nat_abs, ◌≤ℤ◌, ◌<ℤ◌, to_z, of_z, arith, sym, subst, eq-eqb}
+use Rattle.std.proofs.Common.{◌≡◌, ℕ, ◌^◌, ◌<◌, ◌≤◌, true, nat_eq, ℤ, pos, negsuc, nat_abs, ◌≤ℤ◌, ◌<ℤ◌, to_z, of_z, arith, sym, subst, eq-eqb}
 use Rattle.std.specs.Prelude.{IsTrue}
 use Rattle.std.specs.Int.{w128}
 use Rattle.std.proofs.lemmas.Int.{ints, to_z-of_z}
 use Rattle.std.proofs.lemmas.Bool.{eqb-true}
-use Rattle.cable_definitions.specs.Tree.{Kept, Node, is_open_leaf, IsBound, IsLeastBound, AllDead}
+use Rattle.cable_definitions.specs.Tree.{Kept, Node, is_open_leaf, IsLeastBound, AllDead}
 use Rattle.layout_laws.proofs.Typing.{all-at}
 use Rattle.proof_laws.proofs.Lists.{any_at}
-use Rattle.site_model.specs.Best.{most_cost}
 
 -- ---- the least bound
 -- where there is a least bound, some leaf isn't dead
@@ -43,19 +42,9 @@ pub small_back : (z : ℤ) → pos 0 ≤ℤ z → z <ℤ pos (2 ^ 100) → to_z 
 small_back z h k = to_z-of_z w128 z (omega (arith, ints, h, k))
 
 -- ---- new bounds
--- the new bound is small where the parent's is and the value is
-pub bound_small : (parent bound : ℕ) (value : ℤ) → IsBound parent value bound → parent < 2 ^ 100 → value ≤ℤ pos (2 ^ 20 * (65280 * most_cost)) → bound < 2 ^ 100
-bound_small parent bound value b h k =
-    let m = b.least (2 ^ 100 - 1) (omega arith) (omega (arith, ints, k)) in
-    omega (arith, m)
-
--- the same of numbers that the machine passed on
-pub new_small : (p v r : ℤ) → IsBound (nat_abs (to_z w128 (of_z w128 p))) (to_z w128 (of_z w128 v)) (nat_abs r) → pos 0 ≤ℤ p → p <ℤ pos (2 ^ 100)
-    → pos 0 ≤ℤ v → v ≤ℤ pos (2 ^ 20 * (65280 * most_cost)) → pos 0 ≤ℤ r → to_z w128 (of_z w128 r) <ℤ pos (2 ^ 100)
-new_small p v r b hp kp hv kv hr =
-    let f : to_z w128 (of_z w128 v) ≡ v = to_z-of_z w128 v (omega (arith, ints, hv, kv)) in
-    let first = subst (λ (q : ℤ). IsBound (nat_abs q) (to_z w128 (of_z w128 v)) (nat_abs r)) (small_back p hp kp) b in
-    let second = subst (λ (q : ℤ). IsBound (nat_abs p) q (nat_abs r)) f first in
-    let n = bound_small (nat_abs p) (nat_abs r) v second (omega (arith, ints, hp, kp)) kv in
-    let q : r <ℤ pos (2 ^ 100) = omega (arith, ints, hr, n) in
+-- a new bound that is small where its parent's is, is small as the machine passes it on
+pub new_small : (p r : ℤ) → pos 0 ≤ℤ p → p <ℤ pos (2 ^ 100) → (to_z w128 (of_z w128 p) <ℤ pos (2 ^ 100) → r <ℤ pos (2 ^ 100)) → pos 0 ≤ℤ r
+    → to_z w128 (of_z w128 r) <ℤ pos (2 ^ 100)
+new_small p r hp kp small hr =
+    let q : r <ℤ pos (2 ^ 100) = small (subst (λ (z : ℤ). z <ℤ pos (2 ^ 100)) (sym (small_back p hp kp)) kp) in
     subst (λ (z : ℤ). z <ℤ pos (2 ^ 100)) (sym (small_back r hr q)) q

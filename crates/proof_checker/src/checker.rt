@@ -2,7 +2,6 @@ ghost use Rattle.std.specs.Prelude.{◌≡◌, ℕ, ◌≤◌, List, [], None, S
 ghost use Rattle.cable_definitions.specs.declared.claim.Cause.{Cause as AnyCause};
 ghost use Rattle.cable_definitions.specs.Arcs.{AreArcs};
 ghost use Rattle.cable_definitions.specs.Tree.{Item, RowItem, WorkItem, nothing_kept, Accepts, IsAccepted, Agrees, Says};
-ghost use Rattle.cable_definitions.specs.Built.{IsBuiltClaim};
 ghost use Rattle.cable_definitions.specs.Refusal.{IsRowRefused, IsWorkRefused, IsClaimRefused};
 ghost use Rattle.branch_tree.specs.declared.work.Refusal.{Refusal as AnyRefusal};
 ghost use Rattle.proof_checker.specs.State.{Refuses};
@@ -113,16 +112,16 @@ impl<'a> Checker<'a> {
         }
     }
 
-    /// Feeds a work, whose last line has this number. It takes no memory. Only works without weights are fed so far.
+    /// Feeds a work, whose last line has this number. It takes no memory.
     ///
     /// # Errors
     ///
     /// The refusal of an earlier line, where there is one; nothing changes then. Else a refusal of this line, which is kept, with the first
-    /// of these causes: `Limit` where the works were as many as the budget; `Node` where the node isn't made or was worked; `Arc` where a
+    /// of these causes: `Limit` where the works were as many as the budget; `Node` where the node isn't made or was worked; `Weight` where
+    /// the weights aren't lawful; `Arc` where a
     /// split names no arc that is free; `Dead` where the reason isn't true of the node with its new bound; `Full` where the node isn't
     /// full.
     pub fn feed_work(&mut self, line: u64, work: &Work) -> Result<(), Refusal>
-        requires no_weights { work.now.weights ≡ [] }
         ensures accepted { OnOk result (Accepts self.old.site self.old.arcs self.old.budget self.old.kept
             (WorkItem work.now.node work.now.weights work.now.act) self.new.kept) }
         ensures no_cause { OnOk result ((cause : AnyCause)
@@ -151,15 +150,15 @@ impl<'a> Checker<'a> {
     }
 
     /// What the document says of all legal layouts, by its layout and its claim, whose line has this number: the least bound over the leaves
-    /// that aren't dead, or that there is no legal layout. It takes no memory. Claims of a part of a layout aren't checked so far.
+    /// that aren't dead, or that there is no legal layout. It takes no memory.
     ///
     /// # Errors
     ///
     /// The refusal of an earlier line, where there is one. Else a refusal of this line, which is kept: `Layout` where the layout isn't legal
-    /// at the claimed cost, or a claim that there is none has a cable; else `Verdict` where the claim disagrees with the least bound, or a
-    /// gap has a bound that isn't below its cost or works that aren't as many as the budget.
+    /// at the claimed cost, or isn't a grown part to which the named turbine can't be joined, or a claim that there is none has a cable; else
+    /// `Verdict` where the claim disagrees with the least bound, or a gap has a bound that isn't below its cost, or a gap or a part has works
+    /// that aren't as many as the budget.
     pub fn close(&mut self, line: u64, layout: &Layout, claim: Claim) -> Result<Bound, Refusal>
-        requires built { IsBuiltClaim claim }
         ensures agrees { OnOk result (Agrees self.old.site self.old.budget self.old.kept layout.now claim) }
         ensures bound { IfOk result (IsBoundOf self.old.kept) }
         ensures says { OnOk result ((items : List Item) → IsAccepted self.old.site self.old.arcs self.old.budget items self.old.kept

@@ -4,14 +4,13 @@ ghost use Rattle.std.specs.Prelude.{◌≡◌, ℕ, ◌≤◌, List, ◌↔◌, 
 ghost use Rattle.cable_definitions.specs.Layout.{IsLegal, cost as cost_of};
 ghost use Rattle.cable_definitions.specs.Row.{Row};
 ghost use Rattle.cable_definitions.specs.Tree.{Kept as AnyKept, LayoutAgrees, BoundAgrees, Agrees, IsLeastBound, AllDead};
-ghost use Rattle.cable_definitions.specs.Built.{IsBuiltClaim};
 ghost use Rattle.cable_definitions.specs.Refusal.{IsClaimRefused, IsLeastCause};
 ghost use Rattle.proof_checker.specs.State.{kept_from};
 ghost use Rattle.proof_checker.specs.Answers.{IsBoundOf};
 
 use branch_tree::Tree;
 use cable_definitions::claim::{Cause, Claim};
-use layout_meaning::{Layout, Verdict, judge};
+use layout_meaning::{Layout, Verdict, judge, part_blocked};
 use site_model::Site;
 
 /// What an accepted document says of all legal layouts: each costs at least so many cost units, or there is none.
@@ -33,14 +32,12 @@ fn has_cost(site: &Site, layout: &Layout, cost: u64) -> bool
 
 /// Whether the layout is as the claim says.
 fn layout_agrees(site: &Site, layout: &Layout, claim: Claim) -> bool
-    requires { IsBuiltClaim claim }
     ensures { IsTrue result ↔ LayoutAgrees site.now layout.now claim }
 {
     match claim {
         Claim::Optimal(cost) => has_cost(site, layout, cost),
         Claim::Gap { cost, bound } => has_cost(site, layout, cost),
-        // No claim of a part of a layout is read so far.
-        Claim::Partial { bound, stuck } => false,
+        Claim::Partial { bound, stuck } => part_blocked(site, layout, stuck),
         Claim::Infeasible => layout.cables().is_empty(),
     }
 }
@@ -65,6 +62,16 @@ fn all_dead(tree: &Tree) -> bool
     }
 }
 
+/// Whether this is the least bound over the leaves that aren't dead, with the whole budget worked.
+fn has_worked(tree: &Tree, budget: u32, bound: u64) -> bool
+    ensures { (rows : List Row) → IsTrue result ↔ IsLeastBound (kept_from rows tree.now) bound × ((kept_from rows tree.now).works ≡ budget) }
+{
+    if tree.works() != budget {
+        return false;
+    }
+    has_least(tree, bound)
+}
+
 /// Whether the bound of a gap is as the claim says: the least bound, below the cost, with the whole budget worked.
 fn has_gap(tree: &Tree, budget: u32, cost: u64, bound: u64) -> bool
     ensures { (rows : List Row) → IsTrue result ↔ BoundAgrees budget (kept_from rows tree.now) (Claim.Gap cost bound) }
@@ -72,22 +79,17 @@ fn has_gap(tree: &Tree, budget: u32, cost: u64, bound: u64) -> bool
     if bound >= cost {
         return false;
     }
-    if tree.works() != budget {
-        return false;
-    }
-    has_least(tree, bound)
+    has_worked(tree, budget, bound)
 }
 
 /// Whether the bound is as the claim says.
 fn bound_agrees(tree: &Tree, budget: u32, claim: Claim) -> bool
-    requires { IsBuiltClaim claim }
     ensures { (rows : List Row) → IsTrue result ↔ BoundAgrees budget (kept_from rows tree.now) claim }
 {
     match claim {
         Claim::Optimal(cost) => has_least(tree, cost),
         Claim::Gap { cost, bound } => has_gap(tree, budget, cost, bound),
-        // No claim of a part of a layout is read so far.
-        Claim::Partial { bound, stuck } => false,
+        Claim::Partial { bound, stuck } => has_worked(tree, budget, bound),
         Claim::Infeasible => all_dead(tree),
     }
 }
@@ -116,7 +118,6 @@ pub(crate) fn check_claim(
     layout: &Layout,
     claim: Claim,
 ) -> Result<Bound, Cause>
-    requires { IsBuiltClaim claim }
     ensures agrees { OnOk result ((rows : List Row) → Agrees site.now budget (kept_from rows tree.now) layout.now claim) }
     ensures bound { IfOk result (λ bound. (rows : List Row) → IsBoundOf (kept_from rows tree.now) bound) }
     ensures refused { IfErr result (λ cause. (rows : List Row) → IsLeastCause (IsClaimRefused site.now budget (kept_from rows tree.now) layout.now claim) cause) }

@@ -1,5 +1,4 @@
 ghost use Rattle.std.specs.Prelude.{◌≤◌};
-ghost use Rattle.cable_definitions.specs.Built.{IsBuiltClaim};
 
 use crate::{Bound, Cause, Checker, Claim};
 use bound_value::Weights;
@@ -46,7 +45,6 @@ fn check(
 ) -> Result<Result<Bound, Refusal>, Fail>
     requires some_work { 1 ≤ budget }
     requires most_works { budget ≤ 50000 }
-    requires built { IsBuiltClaim claim }
 {
     let mut layout = Layout::new(alloc)?;
     for cable in cables {
@@ -114,6 +112,43 @@ fn gaps_of_one_turbine(rt: HostRuntime) -> Result<(), Fail> {
     Ok(())
 }
 
+/// A substation that takes one cable, and three turbines, no two of which it can feed but through one another.
+fn one_feeder(alloc: Global) -> Result<Site, Fail> {
+    let mut builder = SiteBuilder::new(alloc, Version::One, Mode::Tree)?;
+    builder.add_type(200, 1, None)?;
+    builder.add_point(b"S", 0, 0, RawKind::Substation(1, 10000))?;
+    builder.add_point(b"A", 0, 1000, RawKind::Turbine(100))?;
+    builder.add_point(b"B", 1000, 0, RawKind::Turbine(100))?;
+    builder.add_point(b"C", 1000, 1000, RawKind::Turbine(100))?;
+    Ok(builder.build()?)
+}
+
+#[test]
+fn a_turbine_that_cannot_be_joined(rt: HostRuntime) -> Result<(), Fail> {
+    let alloc = rt.alloc();
+    let site = one_feeder(alloc)?;
+    let stop = [(1, Act::Stop)];
+    let cable = |from, to| Cable { from, to, grade: 0 };
+    let part = [cable(1, 0), cable(2, 1)];
+    for (budget, cables, bound, stuck, answer) in [
+        (1, &part[..], 0, 3, Ok(Bound::Least(0))),
+        (1, &part[..], 0, 2, refused(3, Cause::Layout)),
+        (1, &part[..], 0, 0, refused(3, Cause::Layout)),
+        (1, &part[..], 0, 4, refused(3, Cause::Layout)),
+        (1, &part[..1], 0, 3, refused(3, Cause::Layout)),
+        (1, &part[1..], 0, 3, refused(3, Cause::Layout)),
+        (1, &part[..], 1, 3, refused(3, Cause::Verdict)),
+        (2, &part[..], 0, 3, refused(3, Cause::Verdict)),
+    ] {
+        let claim = Claim::Partial { bound, stuck };
+        assert_eq!(rt;
+            check(alloc, &site, budget, 1, &stop, cables, claim)?,
+            answer
+        );
+    }
+    Ok(())
+}
+
 #[test]
 fn wrong_items_of_one_turbine(rt: HostRuntime) -> Result<(), Fail> {
     let alloc = rt.alloc();
@@ -178,5 +213,50 @@ fn a_site_without_a_layout(rt: HostRuntime) -> Result<(), Fail> {
     let works = [WORKS[0], (2, Act::Dead(Why::Power(0))), WORKS[2]];
     let answer = check(alloc, &site, 3, 1, &works, &[], Claim::Infeasible)?;
     assert_eq!(rt; answer, Ok(Bound::NoLayout));
+    Ok(())
+}
+
+/// What is answered to the claim that 50,000 is optimal, where the one work is on node 1, with this weight on this row, and stops.
+fn weighed(
+    alloc: Global,
+    site: &Site,
+    row: u32,
+    weight: i128,
+) -> Result<Result<Bound, Refusal>, Fail> {
+    let mut weights = Weights::new(alloc)?;
+    weights.push(row, weight)?;
+    let mut layout = Layout::new(alloc)?;
+    layout.push(CABLE)?;
+    let mut checker = Checker::begin(alloc, site, 1)?;
+    let _ = checker.feed_row(1, RowKind::Out, &[1]);
+    let _ = checker.feed_row(2, RowKind::Inlet, &[0]);
+    let work = Work {
+        node: 1,
+        weights,
+        act: Act::Stop,
+    };
+    let _ = checker.feed_work(3, &work);
+    Ok(checker.close(4, &layout, Claim::Optimal(50000)))
+}
+
+#[test]
+fn weights_of_one_turbine(rt: HostRuntime) -> Result<(), Fail> {
+    let alloc = rt.alloc();
+    let site = one_turbine(alloc, 10000)?;
+    let unit = 1_048_576;
+    assert_eq!(rt;
+        weighed(alloc, &site, 0, 50000 * unit)?,
+        Ok(Bound::Least(50000))
+    );
+    assert_eq!(rt;
+        weighed(alloc, &site, 0, 49999 * unit)?,
+        refused(4, Cause::Verdict)
+    );
+    for (row, weight) in [(0, 0), (1, -unit), (2, unit), (0, (1 << 76) + 1)] {
+        assert_eq!(rt;
+            weighed(alloc, &site, row, weight)?,
+            refused(3, Cause::Weight)
+        );
+    }
     Ok(())
 }

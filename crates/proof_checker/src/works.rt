@@ -1,16 +1,16 @@
 //! A work done or refused.
 
-ghost use Rattle.std.specs.Prelude.{◌≡◌, ℕ, ◌≤◌, ◌<◌, ◌^◌, ℤ, pos, nat_abs, ◌≤ℤ◌, ◌<ℤ◌, [], length, Some, OnOk, OnErr, IfErr};
+ghost use Rattle.std.specs.Prelude.{◌≡◌, ℕ, ◌≤◌, ◌<◌, ◌^◌, ℤ, pos, nat_abs, ◌≤ℤ◌, ◌<ℤ◌, length, Some, OnOk, OnErr, IfErr};
 ghost use Rattle.cable_definitions.specs.declared.cable.Arc.{Arc as AnArc};
 ghost use Rattle.cable_definitions.specs.Arcs.{AreArcs};
-ghost use Rattle.cable_definitions.specs.Choice.{IsValue};
+ghost use Rattle.cable_definitions.specs.Choice.{AreLawful, IsValue};
 ghost use Rattle.cable_definitions.specs.Tree.{Node, node_of, marks_of, IsBound, IsWorked};
 ghost use Rattle.cable_definitions.specs.Refusal.{IsWorkRefused, IsLeastCause};
 ghost use Rattle.branch_tree.specs.State.{tree_after, IsMade, IsUnworked, ActIsWithin};
 ghost use Rattle.proof_checker.specs.State.{kept_from};
 
 use crate::acts::bound_after;
-use bound_value::{Decisions, rounded_bound, weigh};
+use bound_value::{Decisions, lawful, rounded_bound, weigh};
 use branch_tree::{Tree, Work};
 use cable_definitions::claim::Cause;
 use cable_definitions::row::Act;
@@ -41,7 +41,7 @@ fn new_bound(
     requires arcs { AreArcs site.now arcs.now }
     requires count { length decisions.now ≡ length arcs.now }
     requires made { IsMade tree.now.nodes work.now.node }
-    requires no_weights { work.now.weights ≡ [] }
+    requires lawful { AreLawful pool.now work.now.weights }
     ensures bound { (node : Node) → node_of tree.now.nodes work.now.node ≡ Some node
         → (value : ℤ) × IsValue site.now arcs.now pool.now decisions.now work.now.weights value × IsBound node.bound value (nat_abs result) }
     ensures not_negative { pos 0 ≤ℤ result }
@@ -63,7 +63,7 @@ fn do_act(tree: &mut Tree, node: u32, act: Act, bound: i128)
     let _ = tree.work(node, act, bound);
 }
 
-/// Does a work on a node that isn't worked, within the budget.
+/// Does a work with lawful weights on a node that isn't worked, within the budget.
 fn work_node(
     site: &Site,
     arcs: &Arcs,
@@ -75,7 +75,8 @@ fn work_node(
     requires arcs { AreArcs site.now arcs.now }
     requires tree_arcs { tree.old.arcs ≡ length arcs.now }
     requires count { length decisions.old ≡ length arcs.now }
-    requires no_weights { work.now.weights ≡ [] }
+    requires lawful { AreLawful pool.now work.now.weights }
+    requires few { length work.now.weights ≤ 1024 }
     requires room { tree.old.works < tree.old.budget }
     requires unworked { IsUnworked tree.old.nodes work.now.node }
     ensures worked { OnOk result (IsWorked site.now arcs.now tree.old.budget (kept_from pool.now tree.old) work.now.node work.now.weights work.now.act (kept_from pool.now tree.new)) }
@@ -96,12 +97,12 @@ fn work_node(
     }
 }
 
-/// Does a work within the budget. It takes no memory. Only works without weights are done so far.
+/// Does a work within the budget. It takes no memory.
 ///
 /// # Errors
 ///
-/// `Limit` where as many works were done as the budget has, else `Node` where the node wasn't made or is worked, else what keeps the act
-/// from being done: `Arc`, `Dead` or `Full`. Nothing changes in the tree then.
+/// `Limit` where as many works were done as the budget has, else `Node` where the node wasn't made or is worked, else `Weight` where the
+/// weights aren't lawful, else what keeps the act from being done: `Arc`, `Dead` or `Full`. Nothing changes in the tree then.
 pub(crate) fn do_work(
     site: &Site,
     arcs: &Arcs,
@@ -115,7 +116,6 @@ pub(crate) fn do_work(
     requires tree_budget { tree.old.budget ≡ budget }
     requires tree_arcs { tree.old.arcs ≡ length arcs.now }
     requires count { length decisions.old ≡ length arcs.now }
-    requires no_weights { work.now.weights ≡ [] }
     ensures worked { OnOk result (IsWorked site.now arcs.now budget (kept_from pool.now tree.old) work.now.node work.now.weights work.now.act (kept_from pool.now tree.new)) }
     ensures refused { IfErr result (IsLeastCause (IsWorkRefused site.now arcs.now budget (kept_from pool.now tree.old) work.now.node work.now.weights work.now.act)) }
     ensures same { OnErr result (tree.new ≡ tree.old) }
@@ -123,11 +123,16 @@ pub(crate) fn do_work(
     ensures tree_arcs { tree.new.arcs ≡ tree.old.arcs }
     ensures count { length decisions.new ≡ length arcs.now }
 {
+    // The weights come with the fact that they are few.
+    let _weights = work.weights.as_slice();
     if tree.works() >= budget {
         return Err(Cause::Limit);
     }
     if !tree.unworked(work.node) {
         return Err(Cause::Node);
+    }
+    if !lawful(pool, &work.weights) {
+        return Err(Cause::Weight);
     }
     work_node(site, arcs, pool, tree, decisions, work)
 }

@@ -1,25 +1,26 @@
--- Verdicts whose numbers are beyond their ranges.
+-- Verdicts: their numbers within and beyond their ranges, their claims, and names that are no turbine's.
 use Rattle.std.proofs.Common.{◌≡◌, ℕ, ◌<◌, ◌^◌, ℤ, pos, negsuc, List, [], ◌∷◌, Some, refl, sym, ◌∙◌, ap, subst, All, arith, codes}
-use Rattle.std.specs.Prelude.{nat_abs}
+use Rattle.std.specs.Prelude.{nat_abs, IsTrue}
 use Rattle.std.specs.Fmt.{decimal}
 use Rattle.std.proofs.lemmas.Int.{ints}
 use Rattle.std.proofs.lemmas.List.Elements.{All-head, All-tail}
-use Rattle.std.specs.Prelude.{IsTrue}
-use Rattle.cable_definitions.specs.declared.claim.Cause.TheVariants.{Limit}
+use Rattle.cable_definitions.specs.declared.claim.Cause.TheVariants.{Limit, Layout}
 use Rattle.cable_definitions.specs.declared.claim.Claim.{Claim}
+use Rattle.cable_definitions.specs.declared.claim.Claim.TheVariants.{Optimal, Gap, Partial, Infeasible}
 use Rattle.cable_definitions.specs.Site.{Site}
-use Rattle.cable_definitions.specs.Text.{line, claim_line}
+use Rattle.cable_definitions.specs.Text.{line, claim_line, name_of, Whole}
 use Rattle.cable_definitions.specs.Numeral.{spelling as spelled}
+use Rattle.cable_definitions.specs.Document.{IsClaimInRange}
+use Rattle.cable_definitions.specs.Built.{IsBuiltClaim}
 use Rattle.cable_text.proofs.Numerals.{numeral-decimal}
 use Rattle.cable_definitions.specs.Items.{Field, IsWithin, within}
-use Rattle.cable_definitions.specs.Refusal.{RawClaim, AnOptimal, AGap, AnOpen, AnInfeasible, IsClaimOf, claim_spelling, claim_fields, is_built_verdict, ClaimLine, AtCables}
+use Rattle.cable_definitions.specs.Refusal.{RawClaim, AnOptimal, AGap, AnOpen, AnInfeasible, IsClaimOf, claim_spelling, claim_fields, sum_field, is_built_verdict, ClaimLine, Phase, AtCables, Reader, IsLineAt, IsFoundByReading, IsLeastCause}
 use Rattle.proof_text.specs.declared.number.Number.{Number}
-use Rattle.proof_text.specs.declared.said.SaidClaim.{SaidClaim}
-use Rattle.proof_text.specs.declared.said.SaidClaim.TheVariants.{Optimal, Gap, Infeasible}
 use Rattle.proof_text.specs.Numbers.{Is}
-use Rattle.proof_text.specs.Said.{IsClaim}
-use Rattle.proof_text.specs.Judged.{IsBad, claim_from}
+use Rattle.proof_text.specs.Words.{IsCut}
+use Rattle.proof_text.specs.Judged.{IsStanding, IsGood, IsBad}
 use Rattle.proof_text.proofs.Standing.{bad_one, bad_second}
+use Rattle.proof_text.proofs.Causes.{line_of, first_layout}
 
 pub bad_optimal : (n : Number) → ((z : ℤ) → Is n z → ¬ (IsWithin (within (Some z) (pos 0) (pos 9223372036854775807)))) → (raw : RawClaim) → (z : ℤ) × (raw ≡ AnOptimal z) × Is n z → ¬ (All IsWithin (claim_fields raw))
 bad_optimal n none raw h all =
@@ -36,33 +37,79 @@ bad_gap_second m n none raw h all =
     let P : List Field → Type 0 = All IsWithin in
     bad_second (within (Some h.0) (pos 0) (pos 9223372036854775807)) (within (Some h.1) (pos 0) (pos 9223372036854775807)) [] (none h.1 h.4) (subst P (ap claim_fields h.2) all)
 
--- a verdict that is held is one that is read so far
-pub built_claim : (claim : SaidClaim) (raw : RawClaim) → IsClaim claim raw → IsTrue (is_built_verdict raw)
-built_claim (Optimal n) raw h = ap is_built_verdict h.1
-built_claim (Gap m n) raw h = ap is_built_verdict h.2
-built_claim Infeasible raw h = ap is_built_verdict h
+pub bad_open : (n : Number) (name : List ℕ) → ((z : ℤ) → Is n z → ¬ (IsWithin (within (Some z) (pos 0) (pos 9223372036854775807)))) → (raw : RawClaim) → (z : ℤ) × (raw ≡ AnOpen z name) × Is n z → ¬ (All IsWithin (claim_fields raw))
+bad_open n name none raw h all =
+    let P : List Field → Type 0 = All IsWithin in
+    bad_one (within (Some h.0) (pos 0) (pos 9223372036854775807)) [] (none h.0 h.2) (subst P (ap claim_fields h.1) all)
 
-pub bad_claim_line : (ws : List (List ℕ)) (claim : SaidClaim) (raw : RawClaim) → ws ≡ claim_spelling raw → IsClaim claim raw → ¬ (All IsWithin (claim_fields raw)) → IsBad (AtCables 0) ws Limit
-bad_claim_line ws claim raw e h none = (ClaimLine raw, record { words_are = e; members = tt; allowed = built_claim claim raw h }, λ w. none w.0)
+-- each verdict may stand behind the cables
+allowed_claim : (raw : RawClaim) → IsTrue (is_built_verdict raw)
+allowed_claim (AnOptimal c) = refl
+allowed_claim (AGap c b) = refl
+allowed_claim (AnOpen b name) = refl
+allowed_claim AnInfeasible = refl
+
+pub claim_standing : (ws : List (List ℕ)) (raw : RawClaim) → ws ≡ claim_spelling raw → IsStanding (AtCables 0) ws (ClaimLine raw)
+claim_standing ws raw e = record { words_are = e; members = tt; allowed = allowed_claim raw }
+
+pub claim_good : (ws : List (List ℕ)) (raw other : RawClaim) → ws ≡ claim_spelling raw → raw ≡ other → All IsWithin (claim_fields raw) → IsGood (AtCables 0) ws (ClaimLine other)
+claim_good ws raw other e same h =
+    let P : RawClaim → Type 0 = λ r. IsGood (AtCables 0) ws (ClaimLine r) in
+    subst P same (record { standing = claim_standing ws raw e; limits = (h, tt) })
+
+pub bad_claim_line : (ws : List (List ℕ)) (raw : RawClaim) → ws ≡ claim_spelling raw → ¬ (All IsWithin (claim_fields raw)) → IsBad (AtCables 0) ws Limit
+bad_claim_line ws raw e none = (ClaimLine raw, claim_standing ws raw e, λ w. none w.0)
+
+-- ---- the claim of a verdict
+-- the one number, the first of two, and the second
+one_within : (z : ℤ) (fs : List Field) → All IsWithin (sum_field z ∷ fs) → IsWithin (sum_field z)
+one_within z fs h = All-head IsWithin (sum_field z) fs h
+
+second_within : (y z : ℤ) → All IsWithin (sum_field y ∷ sum_field z ∷ []) → IsWithin (sum_field z)
+second_within y z h = one_within z [] (All-tail IsWithin (sum_field y) (sum_field z ∷ []) h)
 
 -- a number within its range is spelled as it is written
 pub spelled_small : (z : ℤ) (most : ℕ) → most < 10 ^ 64 → IsWithin (within (Some z) (pos 0) (pos most)) → decimal (nat_abs z) ≡ spelled z
 spelled_small (pos n) most small h = let b = h (pos n) refl in sym (numeral-decimal n (omega (arith, ints, b.1, small)))
 spelled_small (negsuc n) most small h = let b = h (negsuc n) refl in absurd (omega (arith, ints, b.0))
 
--- the claim of a verdict that is read so far
-pub claim_of : (s : Site) (raw : RawClaim) (claim : Claim) → claim_from raw ≡ claim → IsTrue (is_built_verdict raw) → IsClaimOf s raw claim
-claim_of s (AnOptimal c) claim e built = sym e
-claim_of s (AGap c b) claim e built = sym e
-claim_of s (AnOpen b name) claim e built = absurd (cc)
-claim_of s AnInfeasible claim e built = sym e
+sum_spelled : (z : ℤ) → IsWithin (sum_field z) → decimal (nat_abs z) ≡ spelled z
+sum_spelled z h = spelled_small z 9223372036854775807 (omega arith) h
+
+small_sum : (z : ℤ) → IsWithin (sum_field z) → nat_abs z < 2 ^ 63
+small_sum (pos n) h = let b = h (pos n) refl in omega (arith, ints, b.1)
+small_sum (negsuc n) h = let b = h (negsuc n) refl in absurd (omega (arith, ints, b.0))
 
 -- its words
-pub claim_spelled : (s : Site) (raw : RawClaim) → IsTrue (is_built_verdict raw) → All IsWithin (claim_fields raw) → claim_line s (claim_from raw) ≡ line (claim_spelling raw)
-claim_spelled s (AnOptimal c) built h =
-    ap (λ w. line (codes "optimal" ∷ w ∷ [])) (spelled_small c 9223372036854775807 (omega arith) (All-head IsWithin (within (Some c) (pos 0) (pos 9223372036854775807)) [] h))
-claim_spelled s (AGap c b) built h =
-    ap (λ w. line (codes "gap" ∷ w ∷ decimal (nat_abs b) ∷ [])) (spelled_small c 9223372036854775807 (omega arith) (All-head IsWithin (within (Some c) (pos 0) (pos 9223372036854775807)) (within (Some b) (pos 0) (pos 9223372036854775807) ∷ []) h))
-    ∙ ap (λ w. line (codes "gap" ∷ spelled c ∷ w ∷ [])) (spelled_small b 9223372036854775807 (omega arith) (All-head IsWithin (within (Some b) (pos 0) (pos 9223372036854775807)) [] (All-tail IsWithin (within (Some c) (pos 0) (pos 9223372036854775807)) (within (Some b) (pos 0) (pos 9223372036854775807) ∷ []) h)))
-claim_spelled s (AnOpen b name) built h = absurd (cc)
-claim_spelled s AnInfeasible built h = refl
+pub claim_spelled : (s : Site) (raw : RawClaim) (claim : Claim) → IsClaimOf s raw claim → All IsWithin (claim_fields raw) → claim_line s claim ≡ line (claim_spelling raw)
+claim_spelled s (AnOptimal c) claim e h = ap (claim_line s) e ∙ ap (λ w. line (codes "optimal" ∷ w ∷ [])) (sum_spelled c (one_within c [] h))
+claim_spelled s (AGap c b) claim e h =
+    ap (claim_line s) e
+    ∙ ap (λ w. line (codes "gap" ∷ w ∷ decimal (nat_abs b) ∷ [])) (sum_spelled c (one_within c (sum_field b ∷ []) h))
+    ∙ ap (λ w. line (codes "gap" ∷ spelled c ∷ w ∷ [])) (sum_spelled b (second_within c b h))
+claim_spelled s (AnOpen b name) claim (p, turbine, named, e) h =
+    ap (claim_line s) e
+    ∙ ap (λ w. line (codes "open" ∷ w ∷ codes "stuck" ∷ name_of s p ∷ [])) (sum_spelled b (one_within b [] h))
+    ∙ ap (λ w. line (codes "open" ∷ spelled b ∷ codes "stuck" ∷ w ∷ [])) named
+claim_spelled s AnInfeasible claim e h = ap (claim_line s) e
+
+-- its numbers are in range
+pub claim_in_range : (s : Site) (raw : RawClaim) (claim : Claim) → IsClaimOf s raw claim → All IsWithin (claim_fields raw) → IsClaimInRange claim
+claim_in_range s (AnOptimal c) claim e h = subst IsClaimInRange (sym e) (small_sum c (one_within c [] h))
+claim_in_range s (AGap c b) claim e h = subst IsClaimInRange (sym e) (small_sum c (one_within c (sum_field b ∷ []) h), small_sum b (second_within c b h))
+claim_in_range s (AnOpen b name) claim (p, turbine, named, e) h = subst IsClaimInRange (sym e) (small_sum b (one_within b [] h))
+claim_in_range s AnInfeasible claim e h = subst IsClaimInRange (sym e) tt
+
+-- each is read
+pub claim_built : (claim : Claim) → IsBuiltClaim claim
+claim_built (Optimal c) = tt
+claim_built (Gap c b) = tt
+claim_built (Partial b stuck) = refl
+claim_built Infeasible = tt
+
+-- ---- a verdict that names no turbine
+pub no_turbine : (s : Site) (r : Reader) (text : List ℕ) (ws : List (List ℕ)) (raw : RawClaim) → r.phase ≡ AtCables 0 → IsCut text ws → IsGood (AtCables 0) ws (ClaimLine raw) → ((claim : Claim) → ¬ (IsClaimOf s raw claim))
+    → IsLeastCause (IsFoundByReading s r (Whole text)) Layout
+no_turbine s r text ws raw e cut good none =
+    let P : Phase → Type 0 = λ p. IsLineAt p text (ClaimLine raw) in
+    first_layout s r text (ClaimLine raw) (subst P (sym e) (line_of (AtCables 0) text ws (ClaimLine raw) cut good.standing)) good.limits (λ named. none named.0 named.1)

@@ -1,34 +1,29 @@
 -- The lines of items, as they were found.
-use Rattle.std.proofs.Common.{◌≡◌, ℕ, ◌≤◌, ◌<◌, ◌^◌, ℤ, pos, List, [], ◌∷◌, ◌++◌, length, take, Option, Some, None, Err, refl, sym, ap, ◌∙◌, subst, append_assoc, arith, codes, All}
+use Rattle.std.proofs.Common.{◌≡◌, ℕ, ◌≤◌, ◌<◌, ◌^◌, ℤ, pos, List, [], ◌∷◌, ◌++◌, length, take, Option, Some, None, refl, sym, ap, ◌∙◌, subst, append_assoc, arith, codes, All}
 use Rattle.std.specs.Prelude.{nat_abs, slice_set}
 use Rattle.std.specs.Fmt.{decimal}
 use Rattle.std.proofs.lemmas.Int.{ints}
-use Rattle.std.proofs.lemmas.List.{append-nil}
 use Rattle.std.proofs.lemmas.List.Elements.{All-head, All-tail}
 use Rattle.cable_definitions.specs.declared.row.RowKind.{RowKind}
 use Rattle.cable_definitions.specs.declared.row.RowKind.TheVariants.{Out, Flow, Inlet, Bend, Power, One, Cut}
 use Rattle.cable_definitions.specs.declared.row.Act.{Act}
-use Rattle.cable_definitions.specs.Site.{Site}
 use Rattle.cable_definitions.specs.Numeral.{spelling as spelled}
 use Rattle.cable_definitions.specs.Text.{line, act_line, kind_word, row_line, Whole}
 use Rattle.cable_definitions.specs.Items.{Field, IsWithin, within}
-use Rattle.cable_definitions.specs.Refusal.{RawAct, ASplit, AStop, AFull, ADeadRow, ADeadPair, ADeadLoad, ADeadLoop, ADeadPower, ADeadCeiling, act_spelling, act_from, act_fields, RowLine, WorkLine, ActLine, LayoutLine, member_field, Reader, AtItem, AtWeights, AtCables, after_layout}
+use Rattle.cable_definitions.specs.Refusal.{RawAct, ASplit, AStop, AFull, ADeadRow, ADeadPair, ADeadLoad, ADeadLoop, ADeadPower, ADeadCeiling, act_spelling, act_from, act_fields, RowLine, WorkLine, ActLine, LayoutLine, member_field, AtItem, AtWeights, AtCables, after_layout}
 use Rattle.cable_text.proofs.Numerals.{numeral-decimal}
 use Rattle.cable_text.specs.Stream.{Gives}
 use Rattle.cable_text.specs.Lines.{Finds}
-use Rattle.proof_text.specs.declared.fault.ItemFault.{ItemFault}
-use Rattle.proof_text.specs.declared.fault.ItemFault.TheVariants.{Refused, Read}
 use Rattle.proof_text.specs.declared.judging.ItemLine.{ItemLine}
 use Rattle.proof_text.specs.declared.judging.ItemLine.TheVariants.{Row, Work, Layout}
 use Rattle.proof_text.specs.declared.items.Step.{Step}
 use Rattle.proof_text.specs.declared.items.Step.TheVariants.{Row as RowStep}
 use Rattle.proof_text.specs.Words.{IsCut}
 use Rattle.proof_text.specs.Judged.{IsGood, item_line}
-use Rattle.proof_text.specs.Reading.{counted, RefusedAfter, IfRefused}
-use Rattle.proof_text.specs.Items.{ReadsRow, ReadsWork, ReadsItemLine, ReadsAct, ReadsStep}
+use Rattle.proof_text.specs.Reading.{counted}
+use Rattle.proof_text.specs.Items.{ReadsRow, ReadsItemLine, ReadsAct, ReadsStep}
 use Rattle.proof_text.proofs.Claims.{spelled_small}
 use Rattle.proof_text.proofs.Streams.{goes_one, line_of_good, line_given}
-use Rattle.proof_text.proofs.Behind.{refused_behind}
 
 -- a member within its range is small
 member_small : (kind : RowKind) (m : ℕ) → IsWithin (member_field kind (pos m)) → m ≤ 65279
@@ -53,13 +48,16 @@ module _ (before after : Option (List ℕ)) (text cut_text : List ℕ) (ws : Lis
         most = omega arith;
         built = good.standing.allowed;
       }
-  item_read (Work node) good =
-      let field : Field = within (Some (pos node)) (pos 1) (pos 100001) in
-      let b = All-head IsWithin (within (Some (pos node)) (pos 1) (pos 100001)) (within (Some (pos 0)) (pos 0) (pos 0) ∷ []) good.limits.0 (pos node) refl in (
+  item_read (Work node count) good =
+      let most : Field = within (Some (pos count)) (pos 0) (pos 1024) in
+      let b = All-head IsWithin (within (Some (pos node)) (pos 1) (pos 100001)) (most ∷ []) good.limits.0 (pos node) refl in
+      let d = All-head IsWithin most [] (All-tail IsWithin (within (Some (pos node)) (pos 1) (pos 100001)) (most ∷ []) good.limits.0) (pos count) refl in
+      let few : count ≤ 1024 = omega (arith, ints, d.1) in (
         omega (arith, ints, b.0),
-        line_given AtItem before after text cut_text ws (WorkLine (pos node) (pos 0)) (line (codes "work" ∷ decimal node ∷ decimal 0 ∷ [])) found same cut good.standing
-            (ap (λ w. line (codes "work" ∷ w ∷ decimal 0 ∷ [])) (sym (numeral-decimal node (omega (arith, ints, b.1)))) ∙ ap (λ w. line (codes "work" ∷ spelled (pos node) ∷ w ∷ [])) (sym (numeral-decimal 0 (omega arith)))),
-        λ s r e. goes_one s r AtItem before after text cut_text ws (WorkLine (pos node) (pos 0)) (record r { phase = AtWeights node 0 [] }) found same cut good e tt (λ arcs cause f. f) (λ arcs. refl),
+        few,
+        line_given AtItem before after text cut_text ws (WorkLine (pos node) (pos count)) (line (codes "work" ∷ decimal node ∷ decimal count ∷ [])) found same cut good.standing
+            (ap (λ w. line (codes "work" ∷ w ∷ decimal count ∷ [])) (sym (numeral-decimal node (omega (arith, ints, b.1)))) ∙ ap (λ w. line (codes "work" ∷ spelled (pos node) ∷ w ∷ [])) (sym (numeral-decimal count (omega (arith, few))))),
+        λ s r e. goes_one s r AtItem before after text cut_text ws (WorkLine (pos node) (pos count)) (record r { phase = AtWeights node count [] }) found same cut good e tt (λ arcs cause f. f) (λ arcs. refl),
       )
   item_read (Layout count) good =
       let b = All-head IsWithin (within (Some (pos count)) (pos 0) (pos 256)) [] good.limits.0 (pos count) refl in
@@ -95,7 +93,7 @@ pub act_read : (before after : Option (List ℕ)) (text cut_text : List ℕ) (ws
 act_read before after text cut_text ws act found same cut h = record {
   raw = h.0;
   act_is = h.1;
-  reads = λ s r v e. line_of_good s r (AtWeights v 0 []) before after text cut_text ws (ActLine h.0) found same cut (h.2 v []) e tt;
+  reads = λ s r v weights e. line_of_good s r (AtWeights v 0 weights) before after text cut_text ws (ActLine h.0) found same cut (h.2 v weights) e tt;
   text = line_given (AtWeights 0 0 []) before after text cut_text ws (ActLine h.0) (act_line act) found same cut (h.2 0 []).standing (ap act_line (sym h.1) ∙ act_spelled h.0 (h.2 0 []).limits.0);
 }
 
@@ -107,36 +105,14 @@ gives_then (Some bytes) middle after first second h k =
     let d = subst P h.2 k in
     (d.0, h.1 ∙ ap (λ rest. first ++ rest) d.1 ∙ sym (append_assoc first second d.0), d.2)
 
--- the two lines of a work without weights
-pub work_read : (before middle after : Option (List ℕ)) (node : ℕ) (act : Act) → ReadsItemLine before middle (Work node) → ReadsAct middle after act → ReadsWork before after node [] act
-work_read before middle after node act h k = record {
-  middle = middle;
-  reads = h.2;
-  raw = k.raw;
-  act_is = k.act_is;
-  reads_act = λ s r e. k.reads s r node e;
-  text =
-      let front : List ℕ = line (codes "work" ∷ decimal node ∷ decimal 0 ∷ []) in
-      let P : List ℕ → Type 0 = λ t. Gives before after (t ++ act_line act) in
-      subst P (sym (append-nil front)) (gives_then before middle after front (act_line act) h.1 k.text);
-  first = h.0;
-  few = omega arith;
-}
-
--- a refusal of the line of an act
-pub act_refused : (A B : Type 0) (fault : ItemFault) (before middle : Option (List ℕ)) (lines later node : ℕ) → ReadsItemLine before middle (Work node) → later ≡ counted lines 1
-    → IfRefused {A = A} (Err fault) (λ x. (s : Site) (r : Reader) (v : ℕ) → r.phase ≡ AtWeights v 0 [] → RefusedAfter s r middle later x) → IfRefused {A = B} (Err fault) (λ x. (s : Site) (r : Reader) → r.phase ≡ AtItem → RefusedAfter s r before lines x)
-act_refused A B (Refused x) before middle lines later node h n k = λ s r e. refused_behind s r (record r { phase = AtWeights node 0 [] }) before middle (WorkLine (pos node) (pos 0) ∷ []) lines later x (h.2 s r e) n (k s (record r { phase = AtWeights node 0 [] }) node refl)
-act_refused A B Read before middle lines later node h n k = tt
-
 -- the first member of a list, once it was written
 pub first_written : (xs : List ℕ) (m : ℕ) → 1 ≤ length xs → take 1 (slice_set xs 0 m) ≡ m ∷ []
 first_written [] m h = absurd (omega (arith, h))
 first_written (x ∷ xs) m h = refl
 
 -- the row of a step, once its member was written
-pub row_held : (before after : Option (List ℕ)) (old new : ℕ) (kind : RowKind) (m : ℕ) (step : Step) (xs : List ℕ) → 1 ≤ length xs → step ≡ RowStep kind m → ReadsStep before after old new step → ReadsRow before after kind (take 1 (slice_set xs 0 m)) × (new ≡ counted old 1)
-row_held before after old new kind m step xs some e h =
-    let k : ReadsStep before after old new (RowStep kind m) = subst (λ d. ReadsStep before after old new d) e h in
+pub row_held : (before after : Option (List ℕ)) (old new : ℕ) (weights : List (ℕ × ℤ)) (kind : RowKind) (m : ℕ) (step : Step) (xs : List ℕ) → 1 ≤ length xs → step ≡ RowStep kind m → ReadsStep before after old new weights step → ReadsRow before after kind (take 1 (slice_set xs 0 m)) × (new ≡ counted old 1)
+row_held before after old new weights kind m step xs some e h =
+    let k : ReadsStep before after old new weights (RowStep kind m) = subst (λ d. ReadsStep before after old new weights d) e h in
     let P : List ℕ → Type 0 = λ ms. ReadsRow before after kind ms in
     (subst P (sym (first_written xs m some)) k.0, k.1)

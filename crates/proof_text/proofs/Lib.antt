@@ -1,5 +1,3 @@
--- the line of a row, part by part
-pub mod RowLine
 -- the words of a line are what stands between its spaces
 pub mod Splits
 -- numbers within and beyond their ranges
@@ -20,6 +18,8 @@ pub mod Streams
 pub mod Behind
 -- the lines of items, as they were found
 pub mod ItemLines
+-- the lines of a work, one after another
+pub mod WeightLines
 -- points by their names, and the cable lines that name them
 pub mod Names
 -- cable lines one after another

@@ -1,6 +1,6 @@
 -- Points by their names, and the cable lines that name them.
 use Rattle.std.proofs.Common.{◌≡◌, ◌≢◌, ℕ, suc, ◌-◌, ◌<◌, ◌≤◌, ℤ, List, [], ◌∷◌, ◌++◌, length, get_or, Bool, true, false, refl, sym, ap, ◌∙◌, subst, arith, inl, inr, All, codes}
-use Rattle.std.specs.Prelude.{slice_get}
+use Rattle.std.specs.Prelude.{slice_get, IsTrue}
 use Rattle.std.specs.List.{Any, AllPairs}
 use Rattle.std.specs.Fmt.{decimal}
 use Rattle.std.proofs.lemmas.Bool.{cases_order}
@@ -13,11 +13,13 @@ use Rattle.cable_definitions.specs.declared.claim.Cause.{Cause}
 use Rattle.cable_definitions.specs.declared.claim.Cause.TheVariants.{Line, Form, Site as SiteCause, Row, Limit, Node, Weight, Arc, Dead, Full, Layout, Verdict}
 use Rattle.cable_definitions.specs.declared.site.Point.{Point}
 use Rattle.cable_definitions.specs.Site.{Site}
+use Rattle.cable_definitions.specs.Arcs.{kind_of, is_turbine}
 use Rattle.cable_definitions.specs.Items.{IsWithin}
 use Rattle.cable_definitions.specs.Numeral.{spelling as spelled}
 use Rattle.cable_definitions.specs.Text.{name_from, name_of, line, cable_line, Whole}
 use Rattle.cable_definitions.specs.Refusal.{BudgetLine, RowLine, WorkLine, WeightLine, ActLine, LayoutLine, CableLine, ClaimLine, EndLine, spelling, Phase, AtCables, AtAnyCables, Reader, IsLineAt, IsWithinLimits, IsInOrder, IsCableOf, after_cable, GoesOn, IsFoundByReading, IsLeastCause}
 use Rattle.cable_text.proofs.Numerals.{numeral-decimal}
+use Rattle.proof_laws.proofs.FullLemma.{within-turbine}
 use Rattle.proof_text.specs.Words.{IsCut}
 use Rattle.proof_text.specs.Judged.{IsStanding, IsGood, IsBad}
 use Rattle.proof_text.specs.Cables.{IsNamed, IsAhead, IsNoCable, cables_left, cable_line_words}
@@ -49,6 +51,16 @@ no_start s a b z c none h = none (there s.points c.from a h.listed.from h.from)
 
 pub no_finish : (s : Site) (a b : List ℕ) (z : ℤ) (c : Cable) → ¬ (Any (λ p. p.name ≡ b) s.points) → ¬ (IsNamed s a b z c)
 no_finish s a b z c none h = none (there s.points c.to b h.listed.to h.to)
+
+-- nor has a turbine it
+pub no_point : (s : Site) (n : List ℕ) (p : ℕ) → ¬ (Any (λ q. q.name ≡ n) s.points) → IsTrue (is_turbine (kind_of s p)) → name_of s p ≢ n
+no_point s n p none turbine e = none (there s.points p n (within-turbine s p turbine) e)
+
+-- where the point of a name is no turbine, no turbine has it
+pub no_turbine_named : (s : Site) (n : List ℕ) (p q : ℕ) → AllPairs (λ a b. a.name ≢ b.name) s.points → p < length s.points → name_of s p ≡ n → ¬ IsTrue (is_turbine (kind_of s p)) → IsTrue (is_turbine (kind_of s q)) → name_of s q ≢ n
+no_turbine_named s n p q differ l e none turbine f =
+    let P : ℕ → Type 0 = λ k. IsTrue (is_turbine (kind_of s k)) in
+    none (subst P (one_name s.points q p n differ (within-turbine s q turbine) l f e) turbine)
 
 -- cables of the same start stand behind the same cables
 pub ahead_too : (s : Site) (a b : List ℕ) (z : ℤ) (c d : Cable) (ordered : Bool) (cables : List Cable) → AllPairs (λ p q. p.name ≢ q.name) s.points → IsNamed s a b z c → IsNamed s a b z d → IsAhead ordered cables c → IsAhead ordered cables d

@@ -2,7 +2,7 @@
 use Rattle.std.proofs.Common.{◌≡◌, ◌≢◌, ℕ, ℤ, List, [], ◌∷◌, codes, Bool, false}
 use Rattle.std.specs.Prelude.{◌↔◌, IsTrue}
 use Rattle.cable_definitions.specs.Numeral.{spelling}
-use Rattle.cable_definitions.specs.Refusal.{RawAct, ASplit, AStop, AFull, ADeadRow, ADeadPair, ADeadLoad, ADeadLoop, ADeadPower, ADeadCeiling, act_spelling, RawClaim, AnOptimal, AGap, AnOpen, AnInfeasible, claim_spelling, is_built_verdict}
+use Rattle.cable_definitions.specs.Refusal.{RawAct, ASplit, AStop, AFull, ADeadRow, ADeadPair, ADeadLoad, ADeadLoop, ADeadPower, ADeadCeiling, act_spelling, RawClaim, AnOptimal, AGap, AnOpen, AnInfeasible, claim_spelling}
 
 -- what a test that failed tells
 pub not_so : {A : Type 0} {b : Bool} → (IsTrue b ↔ A) → b ≡ false → ¬ A
@@ -25,11 +25,12 @@ no_act ws stop full ceiling split row load loop power pair (ADeadLoop p) = loop 
 no_act ws stop full ceiling split row load loop power pair (ADeadPower p) = power p
 no_act ws stop full ceiling split row load loop power pair ADeadCeiling = ceiling
 
--- no verdict that is read so far
+-- no verdict
 pub no_claim :
     (ws : List (List ℕ)) → ws ≢ codes "infeasible" ∷ [] → ((z : ℤ) → ws ≢ codes "optimal" ∷ spelling z ∷ [])
-    → ((y z : ℤ) → ws ≢ codes "gap" ∷ spelling y ∷ spelling z ∷ []) → (raw : RawClaim) → IsTrue (is_built_verdict raw) → ws ≢ claim_spelling raw
-no_claim ws infeasible optimal gap (AnOptimal c) built = optimal c
-no_claim ws infeasible optimal gap (AGap c b) built = gap c b
-no_claim ws infeasible optimal gap (AnOpen b name) built = absurd (cc)
-no_claim ws infeasible optimal gap AnInfeasible built = infeasible
+    → ((y z : ℤ) → ws ≢ codes "gap" ∷ spelling y ∷ spelling z ∷ []) → ((z : ℤ) (name : List ℕ) → ws ≢ codes "open" ∷ spelling z ∷ codes "stuck" ∷ name ∷ [])
+    → (raw : RawClaim) → ws ≢ claim_spelling raw
+no_claim ws infeasible optimal gap open_claim (AnOptimal c) = optimal c
+no_claim ws infeasible optimal gap open_claim (AGap c b) = gap c b
+no_claim ws infeasible optimal gap open_claim (AnOpen b name) = open_claim b name
+no_claim ws infeasible optimal gap open_claim AnInfeasible = infeasible

@@ -1,5 +1,5 @@
 -- Lines that may stand in a place, and their numbers.
-use Rattle.std.proofs.Common.{◌≡◌, ◌≢◌, ℕ, ℤ, pos, List, [], ◌∷◌, length, codes, Option, None, IfNone, Some, refl, ap, ◌∙◌, subst, arith, All}
+use Rattle.std.proofs.Common.{◌≡◌, ◌≢◌, ℕ, suc, ℤ, pos, List, [], ◌∷◌, length, codes, Option, None, IfNone, Some, refl, ap, ◌∙◌, subst, arith, All}
 use Rattle.std.specs.Prelude.{IsTrue}
 use Rattle.std.proofs.lemmas.List.Elements.{All-head, All-tail}
 use Rattle.cable_definitions.specs.declared.row.RowKind.{RowKind}
@@ -8,7 +8,7 @@ use Rattle.cable_definitions.specs.declared.claim.Cause.TheVariants.{Form}
 use Rattle.cable_definitions.specs.Numeral.{spelling as spelled}
 use Rattle.cable_definitions.specs.Items.{Field, IsWithin, within}
 use Rattle.cable_definitions.specs.Built.{is_built_kind}
-use Rattle.cable_definitions.specs.Refusal.{RawAct, ADeadPair, act_spelling, act_fields, RawClaim, claim_spelling, is_built_verdict, BudgetLine, RowLine, WorkLine, WeightLine, ActLine, LayoutLine, CableLine, ClaimLine, EndLine, spelling, HasMembers, IsWithinLimits, member_field, AtBudget, AtItem, AtWeights, AtCables, AtLast, AtJudged}
+use Rattle.cable_definitions.specs.Refusal.{RawAct, ADeadPair, act_spelling, act_fields, RawClaim, claim_spelling, BudgetLine, RowLine, WorkLine, WeightLine, ActLine, LayoutLine, CableLine, ClaimLine, EndLine, spelling, HasMembers, IsWithinLimits, member_field, AtBudget, AtItem, AtWeights, AtCables, AtLast, AtJudged}
 use Rattle.proof_text.specs.declared.number.Number.{Number}
 use Rattle.proof_text.specs.Numbers.{Is}
 use Rattle.proof_text.specs.Said.{IsRow}
@@ -48,7 +48,18 @@ no_act_line ws v weights none (CableLine a b t) h = let d = h.allowed in cc
 no_act_line ws v weights none (ClaimLine claim) h = let a = h.allowed in cc
 no_act_line ws v weights none EndLine h = let a = h.allowed in cc
 
-pub no_claim_line : (ws : List (List ℕ)) → ((raw : RawClaim) → IsTrue (is_built_verdict raw) → ws ≢ claim_spelling raw) → IsBad (AtCables 0) ws Form
+pub no_weight_line : (ws : List (List ℕ)) (v k : ℕ) (weights : List (ℕ × ℤ)) → ((y z : ℤ) → ws ≢ codes "by" ∷ spelled y ∷ spelled z ∷ []) → IsBad (AtWeights v (suc k) weights) ws Form
+no_weight_line ws v k weights none (BudgetLine n) h = let a = h.allowed in cc
+no_weight_line ws v k weights none (RowLine kind members) h = let a = h.allowed in cc
+no_weight_line ws v k weights none (WorkLine u j) h = let a = h.allowed in cc
+no_weight_line ws v k weights none (WeightLine r w) h = none r w h.words_are
+no_weight_line ws v k weights none (ActLine act) h = let a = h.allowed in cc
+no_weight_line ws v k weights none (LayoutLine j) h = let a = h.allowed in cc
+no_weight_line ws v k weights none (CableLine a b t) h = let d = h.allowed in cc
+no_weight_line ws v k weights none (ClaimLine claim) h = let a = h.allowed in cc
+no_weight_line ws v k weights none EndLine h = let a = h.allowed in cc
+
+pub no_claim_line : (ws : List (List ℕ)) → ((raw : RawClaim) → ws ≢ claim_spelling raw) → IsBad (AtCables 0) ws Form
 no_claim_line ws none (BudgetLine n) h = let a = h.allowed in cc
 no_claim_line ws none (RowLine kind members) h = let a = h.allowed in cc
 no_claim_line ws none (WorkLine v k) h = let a = h.allowed in cc
@@ -56,7 +67,7 @@ no_claim_line ws none (WeightLine r w) h = let a = h.allowed in cc
 no_claim_line ws none (ActLine act) h = let a = h.allowed in cc
 no_claim_line ws none (LayoutLine k) h = let a = h.allowed in cc
 no_claim_line ws none (CableLine a b t) h = let d = h.allowed in cc
-no_claim_line ws none (ClaimLine claim) h = none claim h.allowed h.words_are
+no_claim_line ws none (ClaimLine claim) h = none claim h.words_are
 no_claim_line ws none EndLine h = let a = h.allowed in cc
 
 pub no_end : (ws : List (List ℕ)) → ws ≢ codes "end" ∷ codes "document" ∷ [] → IsBad AtLast ws Form
@@ -73,10 +84,10 @@ no_end ws none EndLine h = none h.words_are
 -- a kind that is read so far has one member
 pub one_member : (kind : RowKind) (members : List ℤ) → IsTrue (is_built_kind kind) → HasMembers (RowLine kind members) → length members ≡ 1
 one_member Out members built h = h.1 refl
-one_member Flow members built h = cc
+one_member Flow members built h = h.1 refl
 one_member Inlet members built h = h.1 refl
 one_member Bend members built h = h.1 refl
-one_member Power members built h = cc
+one_member Power members built h = h.1 refl
 one_member One members built h = cc
 one_member Cut members built h = cc
 

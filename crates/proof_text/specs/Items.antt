@@ -1,11 +1,12 @@
 -- What a reader of items holds, and what it does.
-use Rattle.std.specs.Prelude.{◌≡◌, ℕ, ◌+◌, ◌≤◌, ℤ, pos, List, [], ◌∷◌, length, map, codes, Option, Some, None, Result, Ok, Err, IsTrue}
+use Rattle.std.specs.Prelude.{◌≡◌, ℕ, suc, ◌+◌, ◌≤◌, ℤ, pos, neg_ℤ, ◌≤ℤ◌, List, [], ◌∷◌, ◌++◌, length, map, codes, Option, Some, None, Result, Ok, Err, IsTrue}
+use Rattle.std.specs.List.{concat}
 use Rattle.std.specs.Fmt.{decimal}
 use Rattle.cable_definitions.specs.declared.row.RowKind.{RowKind}
 use Rattle.cable_definitions.specs.declared.row.Act.{Act}
 use Rattle.cable_definitions.specs.Site.{Site}
 use Rattle.cable_definitions.specs.Tree.{RowItem, WorkItem}
-use Rattle.cable_definitions.specs.Text.{line, item_lines, act_line}
+use Rattle.cable_definitions.specs.Text.{line, item_lines, weight_line, act_line}
 use Rattle.cable_definitions.specs.Built.{is_built_kind, most_weights}
 use Rattle.cable_definitions.specs.Refusal.{DocLine, RowLine, WorkLine, WeightLine, ActLine, LayoutLine, RawAct, act_from, Reader, AtItem, AtWeights, AtCables}
 use Rattle.branch_tree.specs.declared.work.Work.{Work}
@@ -55,11 +56,11 @@ pub record ReadsLayout (before after : Option (List ℕ)) (count : ℕ) : Type 0
   pub text : Gives before after (line (codes "layout" ∷ decimal count ∷ []))
   pub most : count ≤ 256
 
--- what is read of an item without weights, or of the layout's line, and how many lines
-abbrev pub ReadsStep : Option (List ℕ) → Option (List ℕ) → ℕ → ℕ → Step → Type 0
-ReadsStep before after old new (RowStep kind member) = ReadsRow before after kind (member ∷ []) × (new ≡ counted old 1)
-ReadsStep before after old new (WorkStep node act) = ReadsWork before after node [] act × (new ≡ counted old 2)
-ReadsStep before after old new (LayoutStep count) = ReadsLayout before after count × (new ≡ counted old 1)
+-- what is read of an item, of these weights where it is a work, or of the layout's line, and how many lines
+abbrev pub ReadsStep : Option (List ℕ) → Option (List ℕ) → ℕ → ℕ → List (ℕ × ℤ) → Step → Type 0
+ReadsStep before after old new weights (RowStep kind member) = ReadsRow before after kind (member ∷ []) × (new ≡ counted old 1)
+ReadsStep before after old new weights (WorkStep node act) = ReadsWork before after node weights act × (new ≡ counted old (2 + length weights))
+ReadsStep before after old new weights (LayoutStep count) = ReadsLayout before after count × (new ≡ counted old 1)
 
 -- what a call for the next item reads, how many lines, and what is held then
 abbrev pub ReadsNext : Option (List ℕ) → Option (List ℕ) → ℕ → ℕ → ItemsState → Result Next ItemFault → Type 0
@@ -76,14 +77,31 @@ kept_after (Err fault) = Some fault
 -- the first line of an item is read, or the layout's line
 abbrev pub ReadsItemLine : Option (List ℕ) → Option (List ℕ) → ItemLine → Type 0
 ReadsItemLine before after (RowItemLine kind member) = ReadsRow before after kind (member ∷ [])
-ReadsItemLine before after (WorkItemLine node) =
-    (1 ≤ node) × Gives before after (line (codes "work" ∷ decimal node ∷ decimal 0 ∷ []))
-    × ((s : Site) (r : Reader) → r.phase ≡ AtItem → ReadsTo s r before after (WorkLine (pos node) (pos 0) ∷ []) (record r { phase = AtWeights node 0 [] }))
+ReadsItemLine before after (WorkItemLine node count) =
+    (1 ≤ node) × (count ≤ most_weights) × Gives before after (line (codes "work" ∷ decimal node ∷ decimal count ∷ []))
+    × ((s : Site) (r : Reader) → r.phase ≡ AtItem → ReadsTo s r before after (WorkLine (pos node) (pos count) ∷ []) (record r { phase = AtWeights node count [] }))
 ReadsItemLine before after (LayoutItemLine count) = ReadsLayout before after count
 
--- the line of an act is read
+-- the line of a weight is read, where one is to come; the weight is from -2 ^ 76 to 2 ^ 76
+pub record ReadsWeight (before after : Option (List ℕ)) (weight : ℕ × ℤ) : Type 0 where
+  pub reads : (s : Site) (r : Reader) (v k : ℕ) (weights : List (ℕ × ℤ)) → r.phase ≡ AtWeights v (suc k) weights → ReadsTo s r before after (WeightLine (pos weight.0) weight.1 ∷ []) (record r { phase = AtWeights v k (weights ++ weight ∷ []) })
+  pub text : Gives before after (weight_line weight)
+  pub small : (neg_ℤ (pos 75557863725914323419136) ≤ℤ weight.1) × (weight.1 ≤ℤ pos 75557863725914323419136)
+
+-- the lines of these weights are read, the first of a work, and so many are to come
+pub record ReadsWeights (before after : Option (List ℕ)) (weights : List (ℕ × ℤ)) : Type 0 where
+  pub reads : (s : Site) (r : Reader) (v left : ℕ) → r.phase ≡ AtWeights v (length weights + left) [] → ReadsTo s r before after (weight_lines weights) (record r { phase = AtWeights v left weights })
+  pub text : Gives before after (concat (map weight_line weights))
+
+-- the line of an act is read, whatever the weights are
 pub record ReadsAct (before after : Option (List ℕ)) (act : Act) : Type 0 where
   pub raw : RawAct
   pub act_is : act_from raw ≡ act
-  pub reads : (s : Site) (r : Reader) (v : ℕ) → r.phase ≡ AtWeights v 0 [] → ReadsLineOf s r before after (ActLine raw)
+  pub reads : (s : Site) (r : Reader) (v : ℕ) (weights : List (ℕ × ℤ)) → r.phase ≡ AtWeights v 0 weights → ReadsLineOf s r before after (ActLine raw)
   pub text : Gives before after (act_line act)
+
+-- the lines of a work behind its first are read
+pub record ReadsRest (before after : Option (List ℕ)) (weights : List (ℕ × ℤ)) (act : Act) : Type 0 where
+  pub middle : Option (List ℕ)
+  pub reads_weights : ReadsWeights before middle weights
+  pub reads_act : ReadsAct middle after act

@@ -1,12 +1,12 @@
 -- What the words of a line say, with its numbers within their limits or not.
-use Rattle.std.specs.Prelude.{◌≡◌, ℕ, pos, nat_abs, List, [], ◌∷◌, IsTrue}
-use Rattle.cable_definitions.specs.declared.claim.Claim.{Claim}
-use Rattle.cable_definitions.specs.declared.claim.Claim.TheVariants.{Optimal, Gap, Infeasible}
+use Rattle.std.specs.Prelude.{◌≡◌, ℕ, pos, List, [], ◌∷◌, IsTrue}
 use Rattle.cable_definitions.specs.declared.claim.Cause.{Cause}
 use Rattle.cable_definitions.specs.declared.claim.Cause.TheVariants.{Form, Limit}
 use Rattle.cable_definitions.specs.Refusal.{DocLine, RowLine, WorkLine, LayoutLine, RawClaim, AnOptimal, AGap, AnOpen, AnInfeasible, Phase, spelling, HasMembers, is_allowed, IsWithinLimits}
 use Rattle.proof_text.specs.declared.judging.ItemLine.{ItemLine}
 use Rattle.proof_text.specs.declared.judging.ItemLine.TheVariants.{Row, Work, Layout}
+use Rattle.proof_text.specs.declared.judging.NamedClaim.{NamedClaim}
+use Rattle.proof_text.specs.declared.judging.NamedClaim.TheVariants.{Optimal, Gap, Open, Infeasible}
 
 -- the words are a line that may stand there
 pub record IsStanding (phase : Phase) (ws : List (List ℕ)) (l : DocLine) : Type 0 where
@@ -28,12 +28,12 @@ IsBad phase ws cause = ⊥
 -- the line of an item
 abbrev pub item_line : ItemLine → DocLine
 item_line (Row kind member) = RowLine kind (pos member ∷ [])
-item_line (Work node) = WorkLine (pos node) (pos 0)
+item_line (Work node count) = WorkLine (pos node) (pos count)
 item_line (Layout count) = LayoutLine (pos count)
 
--- the claim of a verdict that names no turbine
-abbrev pub claim_from : RawClaim → Claim
-claim_from (AnOptimal c) = Optimal (nat_abs c)
-claim_from (AGap c b) = Gap (nat_abs c) (nat_abs b)
-claim_from (AnOpen b name) = Infeasible
-claim_from AnInfeasible = Infeasible
+-- the verdict of a line
+abbrev pub verdict_of : NamedClaim → RawClaim
+verdict_of (Optimal c) = AnOptimal (pos c)
+verdict_of (Gap c b) = AGap (pos c) (pos b)
+verdict_of (Open b name) = AnOpen (pos b) name.now
+verdict_of Infeasible = AnInfeasible

@@ -1,5 +1,3 @@
--- what the writers of a document are given, and the text of a layout
-pub mod Written
 -- the words of a line
 pub mod Words
 -- numbers of a line

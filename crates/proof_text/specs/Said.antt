@@ -4,11 +4,11 @@ use Rattle.cable_definitions.specs.declared.row.RowKind.{RowKind}
 use Rattle.cable_definitions.specs.Numeral.{spelling}
 use Rattle.cable_definitions.specs.Text.{kind_word}
 use Rattle.cable_definitions.specs.Built.{is_built_kind}
-use Rattle.cable_definitions.specs.Refusal.{RawAct, ASplit, AStop, AFull, ADeadRow, ADeadPair, ADeadLoad, ADeadLoop, ADeadPower, ADeadCeiling, RawClaim, AnOptimal, AGap, AnInfeasible}
+use Rattle.cable_definitions.specs.Refusal.{RawAct, ASplit, AStop, AFull, ADeadRow, ADeadPair, ADeadLoad, ADeadLoop, ADeadPower, ADeadCeiling, RawClaim, AnOptimal, AGap, AnOpen, AnInfeasible}
 use Rattle.proof_text.specs.declared.said.SaidAct.{SaidAct}
 use Rattle.proof_text.specs.declared.said.SaidAct.TheVariants.{Split, Stop, Full, Row, Pair, Load, Loop, Power, Ceiling}
 use Rattle.proof_text.specs.declared.said.SaidClaim.{SaidClaim}
-use Rattle.proof_text.specs.declared.said.SaidClaim.TheVariants.{Optimal, Gap, Infeasible}
+use Rattle.proof_text.specs.declared.said.SaidClaim.TheVariants.{Optimal, Gap, Open, Infeasible}
 use Rattle.proof_text.specs.Numbers.{Is}
 
 -- the words of a row of a kind that is read so far
@@ -32,4 +32,5 @@ IsAct Ceiling raw = raw ≡ ADeadCeiling
 abbrev pub IsClaim : SaidClaim → RawClaim → Type 0
 IsClaim (Optimal n) raw = (z : ℤ) × (raw ≡ AnOptimal z) × Is n z
 IsClaim (Gap m n) raw = (y z : ℤ) × (raw ≡ AGap y z) × Is m y × Is n z
+IsClaim (Open n name) raw = (z : ℤ) × (raw ≡ AnOpen z name.now) × Is n z
 IsClaim Infeasible raw = raw ≡ AnInfeasible

@@ -1,9 +1,9 @@
 //! The cable lines of a document.
 
-ghost use Rattle.std.specs.Prelude.{◌≡◌, ◌<◌, ◌≤◌, ◌↔◌, ◌∷◌, ◌++◌, [], ℕ, ℤ, List, pos, suc, length, map, All, AllPairs, Any, None, OnOk, IfOk, IfErr, IfSome, IfNone, IsTrue};
+ghost use Rattle.std.specs.Prelude.{◌≡◌, ◌<◌, ◌≤◌, ◌↔◌, ◌∷◌, ◌++◌, [], ℕ, ℤ, List, pos, suc, length, map, All, AllPairs, None, OnOk, IfOk, IfErr, IfSome, IfNone, IsTrue};
 ghost use Rattle.std.specs.List.{concat};
 ghost use Rattle.cable_definitions.specs.declared.cable.Cable.{Cable as AnyCable};
-ghost use Rattle.cable_definitions.specs.Text.{name_of, cable_line};
+ghost use Rattle.cable_definitions.specs.Text.{cable_line};
 ghost use Rattle.cable_definitions.specs.Site.{IsValid};
 ghost use Rattle.cable_definitions.specs.Refusal.{Reader, DocLine};
 ghost use Rattle.cable_text.specs.Stream.{Rose, Gives};
@@ -15,39 +15,28 @@ ghost use Rattle.proof_text.specs.Cables.{IsListed, IsNamed, IsAhead, IsCableLin
 ghost use Rattle.proof_text.specs.Reading.{counted, ReadsTo, RefusedAfter, IfRefused, IfRead};
 
 use crate::fault::ItemFault;
+use crate::named::point_named;
 use crate::number::Number;
 use crate::reading::{next_line, refused};
 use crate::said::cable_said;
-use crate::words::{Words, is_word, words_of};
+use crate::words::{Words, words_of};
 use cable_definitions::cable::Cable;
 use cable_definitions::claim::Cause;
 use cable_text::{Lines, Source};
 use layout_meaning::Layout;
 use site_model::Site;
 
-/// The number of the point with this name.
-fn point_named(site: &Site, name: &[u8]) -> Option<u32>
-    ensures some { IfSome result (λ p. (p < length site.now.points) × (name_of site.now p ≡ name.now)) }
-    ensures none { IfNone result (¬ (Any (λ p. p.name ≡ name.now) site.now.points)) }
-    ensures valid { IsValid site.now }
-{
-    let points = site.points();
-    for (number, point) in points.iter().enumerate() {
-        if is_word(point.name.as_slice(), name) {
-            return Some(number as u32);
-        }
-    }
-    None
-}
-
 /// The number of a type of the site.
 fn grade_in(site: &Site, number: Number) -> Option<u32>
-    ensures some { IfSome result (λ g. (number ≡ Small g) × (g < length site.now.types)) }
+    ensures some { IfSome result (λ g. (number ≡ Small (pos g)) × (g < length site.now.types)) }
     ensures none { IfNone result ((z : ℤ) → Is number z → (g : ℕ) → z ≡ pos g → ¬ (g < length site.now.types)) }
 {
-    let count = site.types().len() as u64;
+    let count = site.types().len() as i128;
     match number {
         Number::Small(value) => {
+            if value < 0 {
+                return None;
+            }
             if value >= count {
                 return None;
             }

@@ -1,6 +1,6 @@
 //! The budget and the items of a document.
 
-ghost use Rattle.std.specs.Prelude.{◌≡◌, ◌≤◌, ◌∷◌, [], pos, codes, length, map, Some, None, Err, OnOk, IfOk, IfSome, IfNone, ℕ};
+ghost use Rattle.std.specs.Prelude.{◌≡◌, ◌≤◌, ◌<◌, ◌+◌, ◌∷◌, ◌++◌, [], List, suc, pos, codes, length, map, Some, None, Err, OnOk, IfOk, IfSome, IfNone, ℕ, ℤ};
 ghost use Rattle.std.specs.Fmt.{decimal};
 ghost use Rattle.cable_definitions.specs.Site.{Site as SiteValue};
 ghost use Rattle.cable_definitions.specs.Command.{IsBudget};
@@ -8,11 +8,11 @@ ghost use Rattle.cable_definitions.specs.Text.{line};
 ghost use Rattle.cable_definitions.specs.Refusal.{Reader, BudgetLine, AtBudget, AtItem, AtWeights, RawAct, ActLine, act_from};
 ghost use Rattle.cable_text.specs.Stream.{Rose, Gives};
 ghost use Rattle.cable_text.specs.Lines.{ahead};
-ghost use Rattle.proof_text.specs.Items.{ReadsItemLine, ReadsAct, ReadsStep, ReadsNext, kept_after};
+ghost use Rattle.proof_text.specs.Items.{ReadsItemLine, ReadsWeight, ReadsWeights, ReadsAct, ReadsRest, ReadsStep, ReadsNext, kept_after};
 ghost use Rattle.proof_text.specs.Reading.{counted, ReadsTo, ReadsLineOf, RefusedAfter, IfRefused, IfRead};
 
 use crate::fault::ItemFault;
-use crate::judging::{ItemLine, act_in, budget_in, item_in};
+use crate::judging::{ItemLine, act_in, budget_in, item_in, weight_in};
 use crate::reading::{next_line, refused};
 use crate::words::words_of;
 use bound_value::Weights;
@@ -30,7 +30,7 @@ pub enum Next {
     Layout(u32),
 }
 
-/// A row with its one member, a work without weights, or the layout's number of cables.
+/// A row with its one member, a work by its node and its act, or the layout's number of cables.
 #[derive(Clone, Copy)]
 pub enum Step {
     Row(RowKind, u32),
@@ -82,6 +82,65 @@ fn read_item<S: Source>(lines: &mut Lines, src: &mut S) -> Result<ItemLine, Item
     }
 }
 
+/// Reads the line of a weight, where one is to come.
+fn read_weight<S: Source>(lines: &mut Lines, src: &mut S) -> Result<(u32, i128), ItemFault>
+    requires { lines.old.kept ≡ None }
+    ensures reads { IfOk result (λ weight. ReadsWeight (ahead lines.old.pending (S.left src.old)) (ahead lines.new.pending (S.left src.new)) weight) }
+    ensures kept { OnOk result (lines.new.kept ≡ None) }
+    ensures lines { OnOk result (lines.new.lines ≡ counted lines.old.lines 1) }
+    ensures refused { IfRefused result (λ refusal. (s : SiteValue) (r : Reader) (v k : ℕ) (weights : List (ℕ × ℤ)) → r.phase ≡ AtWeights v (suc k) weights
+        → RefusedAfter s r (ahead lines.old.pending (S.left src.old)) lines.old.lines refusal) }
+    ensures read { IfRead result (Rose (S.faults src.old) (S.faults src.new)) }
+    ensures count { S.faults src.old ≤ S.faults src.new }
+{
+    if let Err(fault) = next_line(lines, src) {
+        return Err(fault);
+    }
+    match weight_in(words_of(lines.text())) {
+        Ok(weight) => Ok(weight),
+        Err(cause) => Err(refused(lines, cause)),
+    }
+}
+
+/// Reads the lines of so many weights, so that `weights` holds them and no others.
+fn read_weights<S: Source>(
+    lines: &mut Lines,
+    src: &mut S,
+    weights: &mut Weights,
+    count: u32,
+) -> Result<(), ItemFault>
+    requires kept { lines.old.kept ≡ None }
+    requires room { count ≤ 1024 }
+    ensures reads { OnOk result (ReadsWeights (ahead lines.old.pending (S.left src.old)) (ahead lines.new.pending (S.left src.new)) weights.new) }
+    ensures length { OnOk result (length weights.new ≡ count) }
+    ensures kept { OnOk result (lines.new.kept ≡ None) }
+    ensures lines { OnOk result (counted lines.new.lines 1 ≡ counted lines.old.lines (count + 1)) }
+    ensures refused { IfRefused result (λ refusal. (s : SiteValue) (r : Reader) (v : ℕ) → r.phase ≡ AtWeights v count []
+        → RefusedAfter s r (ahead lines.old.pending (S.left src.old)) lines.old.lines refusal) }
+    ensures read { IfRead result (Rose (S.faults src.old) (S.faults src.new)) }
+    ensures count { S.faults src.old ≤ S.faults src.new }
+{
+    weights.clear();
+    for _ in 0..count {
+        match read_weight(lines, src) {
+            Ok((row, weight)) => add_weight(weights, row, weight),
+            Err(fault) => return Err(fault),
+        }
+    }
+    Ok(())
+}
+
+/// Adds a weight, for which there is room.
+fn add_weight(weights: &mut Weights, row: u32, weight: i128)
+    requires { length weights.old < 1024 }
+    ensures { weights.new ≡ weights.old ++ (row, weight) ∷ [] }
+{
+    match weights.push(row, weight) {
+        Ok(()) => {}
+        Err(_) => unreachable!(),
+    }
+}
+
 /// Reads the line of an act.
 fn read_act<S: Source>(lines: &mut Lines, src: &mut S) -> Result<Act, ItemFault>
     requires { lines.old.kept ≡ None }
@@ -89,7 +148,7 @@ fn read_act<S: Source>(lines: &mut Lines, src: &mut S) -> Result<Act, ItemFault>
     ensures kept { OnOk result (lines.new.kept ≡ None) }
     ensures number { OnOk result (lines.new.number ≡ lines.new.lines) }
     ensures lines { OnOk result (lines.new.lines ≡ counted lines.old.lines 1) }
-    ensures refused { IfRefused result (λ refusal. (s : SiteValue) (r : Reader) (v : ℕ) → r.phase ≡ AtWeights v 0 []
+    ensures refused { IfRefused result (λ refusal. (s : SiteValue) (r : Reader) (v : ℕ) (weights : List (ℕ × ℤ)) → r.phase ≡ AtWeights v 0 weights
         → RefusedAfter s r (ahead lines.old.pending (S.left src.old)) lines.old.lines refusal) }
     ensures read { IfRead result (Rose (S.faults src.old) (S.faults src.new)) }
     ensures count { S.faults src.old ≤ S.faults src.new }
@@ -103,10 +162,39 @@ fn read_act<S: Source>(lines: &mut Lines, src: &mut S) -> Result<Act, ItemFault>
     }
 }
 
-/// Reads an item, or the layout's line.
-fn read_step<S: Source>(lines: &mut Lines, src: &mut S) -> Result<Step, ItemFault>
+/// Reads the lines of a work behind its first: so many weights, which `weights` holds then, and the act.
+fn read_work<S: Source>(
+    lines: &mut Lines,
+    src: &mut S,
+    weights: &mut Weights,
+    count: u32,
+) -> Result<Act, ItemFault>
+    requires kept { lines.old.kept ≡ None }
+    requires room { count ≤ 1024 }
+    ensures reads { IfOk result (λ act. ReadsRest (ahead lines.old.pending (S.left src.old)) (ahead lines.new.pending (S.left src.new)) weights.new act) }
+    ensures length { OnOk result (length weights.new ≡ count) }
+    ensures kept { OnOk result (lines.new.kept ≡ None) }
+    ensures number { OnOk result (lines.new.number ≡ lines.new.lines) }
+    ensures lines { OnOk result (lines.new.lines ≡ counted lines.old.lines (count + 1)) }
+    ensures refused { IfRefused result (λ refusal. (s : SiteValue) (r : Reader) (v : ℕ) → r.phase ≡ AtWeights v count []
+        → RefusedAfter s r (ahead lines.old.pending (S.left src.old)) lines.old.lines refusal) }
+    ensures read { IfRead result (Rose (S.faults src.old) (S.faults src.new)) }
+    ensures count { S.faults src.old ≤ S.faults src.new }
+{
+    if let Err(fault) = read_weights(lines, src, weights, count) {
+        return Err(fault);
+    }
+    read_act(lines, src)
+}
+
+/// Reads an item, whose weights `weights` holds then where it is a work, or the layout's line.
+fn read_step<S: Source>(
+    lines: &mut Lines,
+    src: &mut S,
+    weights: &mut Weights,
+) -> Result<Step, ItemFault>
     requires { lines.old.kept ≡ None }
-    ensures reads { IfOk result (λ step. ReadsStep (ahead lines.old.pending (S.left src.old)) (ahead lines.new.pending (S.left src.new)) lines.old.lines lines.new.lines step) }
+    ensures reads { IfOk result (λ step. ReadsStep (ahead lines.old.pending (S.left src.old)) (ahead lines.new.pending (S.left src.new)) lines.old.lines lines.new.lines weights.new step) }
     ensures kept { OnOk result (lines.new.kept ≡ None) }
     ensures number { OnOk result (lines.new.number ≡ lines.new.lines) }
     ensures refused { IfRefused result (λ refusal. (s : SiteValue) (r : Reader) → r.phase ≡ AtItem
@@ -116,7 +204,7 @@ fn read_step<S: Source>(lines: &mut Lines, src: &mut S) -> Result<Step, ItemFaul
 {
     match read_item(lines, src) {
         Ok(ItemLine::Row(kind, member)) => Ok(Step::Row(kind, member)),
-        Ok(ItemLine::Work(node)) => match read_act(lines, src) {
+        Ok(ItemLine::Work(node, count)) => match read_work(lines, src, weights, count) {
             Ok(act) => Ok(Step::Work(node, act)),
             Err(fault) => Err(fault),
         },
@@ -249,7 +337,7 @@ impl ItemReader {
         if let Some(fault) = self.fault {
             return Err(fault);
         }
-        match read_step(lines, src) {
+        match read_step(lines, src, &mut self.work.weights) {
             Ok(Step::Row(kind, member)) => {
                 self.kind = kind;
                 self.members[0] = member;
@@ -258,7 +346,6 @@ impl ItemReader {
             }
             Ok(Step::Work(node, act)) => {
                 self.work.node = node;
-                self.work.weights.clear();
                 self.work.act = act;
                 Ok(Next::Work)
             }

@@ -1,21 +1,19 @@
 //! What the words of a line say, with their numbers within the limits.
 
-ghost use Rattle.std.specs.Prelude.{◌≡◌, ◌≤◌, ℕ, ℤ, List, pos, All, IfNone, IfSome, IfOk, IfErr};
+ghost use Rattle.std.specs.Prelude.{◌≡◌, ◌≤◌, ℕ, suc, ℤ, List, pos, All, IfNone, IfSome, IfOk, IfErr};
 ghost use Rattle.cable_definitions.specs.declared.row.RowKind.TheVariants.{One as OneKind};
 ghost use Rattle.cable_definitions.specs.Command.{IsBudget};
 ghost use Rattle.cable_definitions.specs.Items.{IsWithin, within};
-ghost use Rattle.cable_definitions.specs.Document.{IsClaimInRange};
-ghost use Rattle.cable_definitions.specs.Built.{IsBuiltClaim};
-ghost use Rattle.cable_definitions.specs.Refusal.{RawAct, RawClaim, act_from, act_fields, claim_fields, member_field, AtBudget, AtItem, AtWeights, AtJudged, AtLast, AtCables, BudgetLine, LayoutLine, ActLine, ClaimLine, EndLine};
+ghost use Rattle.cable_definitions.specs.Refusal.{RawAct, RawClaim, act_from, act_fields, claim_fields, member_field, AtBudget, AtItem, AtWeights, AtJudged, AtLast, AtCables, BudgetLine, WeightLine, LayoutLine, ActLine, ClaimLine, EndLine};
 ghost use Rattle.proof_text.specs.Words.{held};
 ghost use Rattle.proof_text.specs.Numbers.{Is};
 ghost use Rattle.proof_text.specs.Said.{IsAct, IsClaim};
-ghost use Rattle.proof_text.specs.Judged.{IsGood, IsBad, item_line, claim_from};
+ghost use Rattle.proof_text.specs.Judged.{IsGood, IsBad, item_line, verdict_of};
 
-use crate::number::{Number, count_in, sum_in};
+use crate::number::{Number, count_in, sum_in, weight_of};
 use crate::said::{SaidAct, SaidClaim, act_said, claim_said, number_after, numbers_after, row_in};
 use crate::words::{Words, are_two};
-use cable_definitions::claim::{Cause, Claim};
+use cable_definitions::claim::Cause;
 use cable_definitions::row::{Act, RowKind, Why};
 
 /// The greatest number of a point, of an arc and of a row.
@@ -25,16 +23,26 @@ const LAST_ARC: u32 = 65_279;
 
 const LAST_ROW: u32 = 16_383;
 
-/// The most weights of a work so far.
-const MOST_WEIGHTS: u32 = 0;
+/// The most weights of a work.
+const MOST_WEIGHTS: u32 = 1024;
 
-/// A line that may stand where an item may: a row with its one member, a work without weights by its
-/// node, or the layout by its number of cables.
+/// A line that may stand where an item may: a row with its one member, a work by its node and its
+/// number of weights, or the layout by its number of cables.
 #[derive(Clone, Copy)]
 pub enum ItemLine {
     Row(RowKind, u32),
-    Work(u32),
+    Work(u32, u32),
     Layout(u32),
+}
+
+/// A verdict with its numbers within their limits; one of a part that can't be joined further names a
+/// turbine by its name.
+#[derive(Clone, Copy)]
+pub enum NamedClaim<'a> {
+    Optimal(u64),
+    Gap { cost: u64, bound: u64 },
+    Open { bound: u64, stuck: &'a [u8] },
+    Infeasible,
 }
 
 /// The budget of the line `budget N`; `Form` where the line is another, `Limit` where N is out of
@@ -97,7 +105,7 @@ pub fn item_in(words: Words) -> Result<ItemLine, Cause>
             return Err(Cause::Limit);
         };
         return match count_in(weights, 0, MOST_WEIGHTS) {
-            Some(_) => Ok(ItemLine::Work(node)),
+            Some(count) => Ok(ItemLine::Work(node, count)),
             None => Err(Cause::Limit),
         };
     }
@@ -108,6 +116,24 @@ pub fn item_in(words: Words) -> Result<ItemLine, Cause>
         };
     }
     Err(Cause::Form)
+}
+
+/// The row and the weight of the line `by ROW WEIGHT`, where a weight is to come; `Form` where the
+/// line is another, `Limit` where a number is out of range.
+pub fn weight_in(words: Words) -> Result<(u32, i128), Cause>
+    ensures good { IfOk result (λ weight. (v k : ℕ) (weights : List (ℕ × ℤ)) → IsGood (AtWeights v (suc k) weights) (held words.entry) (WeightLine (pos weight.0) weight.1)) }
+    ensures bad { IfErr result (λ cause. (v k : ℕ) (weights : List (ℕ × ℤ)) → IsBad (AtWeights v (suc k) weights) (held words.entry) cause) }
+{
+    let Some((row, weight)) = numbers_after(words, b"by") else {
+        return Err(Cause::Form);
+    };
+    let Some(row) = count_in(row, 0, LAST_ROW) else {
+        return Err(Cause::Limit);
+    };
+    match weight_of(weight) {
+        Some(weight) => Ok((row, weight)),
+        None => Err(Cause::Limit),
+    }
 }
 
 /// The act with its numbers; none where one is out of range.
@@ -148,28 +174,28 @@ pub fn act_in(words: Words) -> Result<Act, Cause>
 }
 
 /// The verdict with its numbers; none where one is out of range.
-fn claim_within(claim: SaidClaim) -> Option<Claim>
-    ensures some { IfSome result (λ c. (raw : RawClaim) → IsClaim claim raw → (claim_from raw ≡ c) × All IsWithin (claim_fields raw)) }
-    ensures none { IfNone result ((raw : RawClaim) → IsClaim claim raw → ¬ (All IsWithin (claim_fields raw))) }
-    ensures range { IfSome result (λ c. IsClaimInRange c) }
-    ensures built { IfSome result (λ c. IsBuiltClaim c) }
+fn claim_within(claim: SaidClaim<'_>) -> Option<NamedClaim<'_>>
+    ensures some { IfSome result (λ c. (raw : RawClaim) → IsClaim claim.entry raw → (raw ≡ verdict_of c) × All IsWithin (claim_fields raw)) }
+    ensures none { IfNone result ((raw : RawClaim) → IsClaim claim.entry raw → ¬ (All IsWithin (claim_fields raw))) }
 {
     match claim {
-        SaidClaim::Optimal(cost) => Some(Claim::Optimal(sum_in(cost)?)),
+        SaidClaim::Optimal(cost) => Some(NamedClaim::Optimal(sum_in(cost)?)),
         SaidClaim::Gap(cost, bound) => {
             let cost = sum_in(cost)?;
             let bound = sum_in(bound)?;
-            Some(Claim::Gap { cost, bound })
+            Some(NamedClaim::Gap { cost, bound })
         }
-        SaidClaim::Infeasible => Some(Claim::Infeasible),
+        SaidClaim::Open(bound, stuck) => {
+            let bound = sum_in(bound)?;
+            Some(NamedClaim::Open { bound, stuck })
+        }
+        SaidClaim::Infeasible => Some(NamedClaim::Infeasible),
     }
 }
 
 /// The verdict of a line; `Form` where the line is another, `Limit` where a number is out of range.
-pub fn claim_in(words: Words) -> Result<Claim, Cause>
-    ensures good { IfOk result (λ c. (raw : RawClaim) × (claim_from raw ≡ c) × IsGood (AtCables 0) (held words.entry) (ClaimLine raw)) }
-    ensures range { IfOk result (λ c. IsClaimInRange c) }
-    ensures built { IfOk result (λ c. IsBuiltClaim c) }
+pub fn claim_in(words: Words<'_>) -> Result<NamedClaim<'_>, Cause>
+    ensures good { IfOk result (λ c. IsGood (AtCables 0) (held words.entry) (ClaimLine (verdict_of c))) }
     ensures bad { IfErr result (λ cause. IsBad (AtCables 0) (held words.entry) cause) }
 {
     let Some(claim) = claim_said(words) else {

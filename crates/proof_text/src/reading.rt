@@ -13,6 +13,7 @@ ghost use Rattle.proof_text.specs.Reading.{counted, ReadsTo, ReadsLineOf, Refuse
 
 use crate::fault::ItemFault;
 use crate::judging::{claim_in, end_in, layout_in};
+use crate::named::claim_named;
 use crate::words::words_of;
 use branch_tree::Refusal;
 use cable_definitions::claim::{Cause, Claim};
@@ -85,7 +86,8 @@ pub fn read_count<S: Source>(lines: &mut Lines, src: &mut S) -> Result<u32, Item
 /// # Errors
 ///
 /// `Refused` with the line's number: `Line` where it is too long, unended or missing, `Form` where it
-/// is another line, `Limit` where a number is out of range. `Read` where the source failed.
+/// is another line, `Limit` where a number is out of range, `Layout` where it names no turbine of the
+/// site. `Read` where the source failed.
 pub fn read_claim<S: Source>(
     lines: &mut Lines,
     src: &mut S,
@@ -108,9 +110,13 @@ pub fn read_claim<S: Source>(
     if let Err(fault) = next_line(lines, src) {
         return Err(fault);
     }
-    match claim_in(words_of(lines.text())) {
-        Ok(claim) => Ok(claim),
-        Err(cause) => Err(refused(lines, cause)),
+    let claim = match claim_in(words_of(lines.text())) {
+        Ok(claim) => claim,
+        Err(cause) => return Err(refused(lines, cause)),
+    };
+    match claim_named(site, claim) {
+        Some(claim) => Ok(claim),
+        None => Err(refused(lines, Cause::Layout)),
     }
 }
 

@@ -5,7 +5,7 @@ ghost use Rattle.cable_definitions.specs.declared.row.RowKind.{RowKind as AnyKin
 ghost use Rattle.cable_definitions.specs.Numeral.{spelling};
 ghost use Rattle.cable_definitions.specs.Text.{kind_word};
 ghost use Rattle.cable_definitions.specs.Built.{is_built_kind};
-ghost use Rattle.cable_definitions.specs.Refusal.{RawAct, RawClaim, act_spelling, claim_spelling, is_built_verdict};
+ghost use Rattle.cable_definitions.specs.Refusal.{RawAct, RawClaim, act_spelling, claim_spelling};
 ghost use Rattle.proof_text.specs.Words.{held};
 ghost use Rattle.proof_text.specs.Numbers.{Is};
 ghost use Rattle.proof_text.specs.Said.{IsRow, IsAct, IsClaim};
@@ -28,11 +28,12 @@ pub enum SaidAct {
     Ceiling,
 }
 
-/// A verdict that is read so far, with any numbers.
+/// A verdict, with any numbers and any name.
 #[derive(Clone, Copy)]
-pub enum SaidClaim {
+pub enum SaidClaim<'a> {
     Optimal(Number),
     Gap(Number, Number),
+    Open(Number, &'a [u8]),
     Infeasible,
 }
 
@@ -118,11 +119,17 @@ fn kind_of(word: &[u8]) -> Option<RowKind>
     if is_word(word, b"out") {
         return Some(RowKind::Out);
     }
+    if is_word(word, b"flow") {
+        return Some(RowKind::Flow);
+    }
     if is_word(word, b"inlet") {
         return Some(RowKind::Inlet);
     }
     if is_word(word, b"bend") {
         return Some(RowKind::Bend);
+    }
+    if is_word(word, b"power") {
+        return Some(RowKind::Power);
     }
     None
 }
@@ -182,10 +189,31 @@ pub fn act_said(words: Words) -> Option<SaidAct>
     None
 }
 
-/// The verdict of a line; none where the line is another, or a verdict that isn't read so far.
-pub fn claim_said(words: Words) -> Option<SaidClaim>
+/// The bound and the name of a verdict of a part that can't be joined further; none where the line is
+/// another.
+fn open_said(words: Words<'_>) -> Option<(Number, &[u8])>
+    ensures some { IfSome result (λ said. (z : ℤ) × (held words.entry ≡ codes "open" ∷ spelling z ∷ codes "stuck" ∷ said.1.now ∷ []) × Is said.0 z) }
+    ensures none { IfNone result ((z : ℤ) (name : List ℕ) → held words.entry ≢ codes "open" ∷ spelling z ∷ codes "stuck" ∷ name ∷ []) }
+{
+    let Words::Four(first, bound, third, name) = words else {
+        return None;
+    };
+    if !is_word(first, b"open") {
+        return None;
+    }
+    if !is_word(third, b"stuck") {
+        return None;
+    }
+    let Some(number) = number_of(bound) else {
+        return None;
+    };
+    Some((number, name))
+}
+
+/// The verdict of a line; none where the line is another.
+pub fn claim_said(words: Words<'_>) -> Option<SaidClaim<'_>>
     ensures some { IfSome result (λ claim. (raw : RawClaim) × (held words.entry ≡ claim_spelling raw) × IsClaim claim raw) }
-    ensures none { IfNone result ((raw : RawClaim) → IsTrue (is_built_verdict raw) → held words.entry ≢ claim_spelling raw) }
+    ensures none { IfNone result ((raw : RawClaim) → held words.entry ≢ claim_spelling raw) }
 {
     if is_one(words, b"infeasible") {
         return Some(SaidClaim::Infeasible);
@@ -195,6 +223,9 @@ pub fn claim_said(words: Words) -> Option<SaidClaim>
     }
     if let Some((cost, bound)) = numbers_after(words, b"gap") {
         return Some(SaidClaim::Gap(cost, bound));
+    }
+    if let Some((bound, name)) = open_said(words) {
+        return Some(SaidClaim::Open(bound, name));
     }
     None
 }

@@ -1,7 +1,9 @@
 use super::*;
 use branch_tree::{Cause, Refusal};
+use cable_definitions::claim::Claim;
 use cable_definitions::row::{Act, RowKind};
 use cable_text::{Lines, MemorySource};
+use site_model::{Mode, RawKind, Site, SiteBuilder, Version};
 use std::alloc::Global;
 use std::test::Fail;
 
@@ -26,6 +28,28 @@ fn items_of_a_document(rt: HostRuntime) -> Result<(), Fail> {
     Ok(())
 }
 
+#[test]
+fn a_work_with_weights(rt: HostRuntime) -> Result<(), Fail> {
+    let alloc = rt.alloc();
+    let bytes = Vec::from_slice(
+        alloc,
+        b"row flow 3\nwork 7 2\nby 16383 -75557863725914323419136\nby 0 5\nfull\nrow power 2\n",
+    )?;
+    let mut source = MemorySource::new(bytes, 4096, Vec::new(alloc));
+    let mut lines = Lines::new(alloc)?;
+    let mut reader = ItemReader::new(alloc)?;
+    assert_eq!(rt; reader.next(&mut lines, &mut source), Ok(Next::Row));
+    assert_eq!(rt; reader.kind(), RowKind::Flow);
+    assert_eq!(rt; reader.next(&mut lines, &mut source), Ok(Next::Work));
+    assert_eq!(rt; reader.work().node, 7);
+    let want = [(16_383, -75_557_863_725_914_323_419_136), (0, 5)];
+    assert_eq!(rt; reader.work().weights.as_slice(), want.as_slice());
+    assert_eq!(rt; reader.work().act, Act::Full);
+    assert_eq!(rt; reader.next(&mut lines, &mut source), Ok(Next::Row));
+    assert_eq!(rt; reader.kind(), RowKind::Power);
+    Ok(())
+}
+
 /// What is read first where an item may stand.
 fn first_item(alloc: Global, text: &[u8]) -> Result<Result<Next, ItemFault>, Fail> {
     let bytes = Vec::from_slice(alloc, text)?;
@@ -44,12 +68,84 @@ fn causes_of_items(rt: HostRuntime) -> Result<(), Fail> {
         (b"row out 1 2\n".as_slice(), 1, Cause::Form),
         (b"work 100002 x\n".as_slice(), 1, Cause::Form),
         (b"row out 256\n".as_slice(), 1, Cause::Limit),
-        (b"work 1 1\n".as_slice(), 1, Cause::Limit),
+        (b"row one 1\n".as_slice(), 1, Cause::Form),
+        (b"work 1 1025\n".as_slice(), 1, Cause::Limit),
+        (b"work 1 1\nby 16384 0\nstop\n".as_slice(), 2, Cause::Limit),
+        (
+            b"work 1 2\nby 0 1\nby 0 75557863725914323419137\n".as_slice(),
+            3,
+            Cause::Limit,
+        ),
+        (
+            b"work 1 2\nby 0 -75557863725914323419137\nstop\n".as_slice(),
+            2,
+            Cause::Limit,
+        ),
+        (b"work 1 2\nby 0 1\nstop\n".as_slice(), 3, Cause::Form),
+        (
+            b"work 1 1\nby 0 1\nby 0 1\nstop\n".as_slice(),
+            3,
+            Cause::Form,
+        ),
+        (b"work 1 1\nby 0 -0\nstop\n".as_slice(), 2, Cause::Form),
+        (b"work 1 1\n".as_slice(), 2, Cause::Line),
         (b"work 1 0\ndead row 16384\n".as_slice(), 2, Cause::Limit),
         (b"work 1 0\nlayout 0\n".as_slice(), 2, Cause::Form),
     ] {
         let want = ItemFault::Refused(Refusal { line, cause });
         assert_eq!(rt; first_item(rt.alloc(), text)?, Err(want));
+    }
+    Ok(())
+}
+
+/// A substation and a turbine.
+fn pair_of_points(alloc: Global) -> Result<Site, Fail> {
+    let mut builder = SiteBuilder::new(alloc, Version::One, Mode::Tree)?;
+    builder.add_type(200, 1, None)?;
+    builder.add_point(b"S", 0, 0, RawKind::Substation(1, 10000))?;
+    builder.add_point(b"A", 0, 1000, RawKind::Turbine(100))?;
+    Ok(builder.build()?)
+}
+
+/// What is read where a verdict may stand.
+fn verdict(alloc: Global, text: &[u8]) -> Result<Result<Claim, ItemFault>, Fail> {
+    let site = pair_of_points(alloc)?;
+    let bytes = Vec::from_slice(alloc, text)?;
+    let mut source = MemorySource::new(bytes, 4096, Vec::new(alloc));
+    let mut lines = Lines::new(alloc)?;
+    Ok(read_claim(&mut lines, &mut source, &site))
+}
+
+#[test]
+fn verdicts_of_a_part(rt: HostRuntime) -> Result<(), Fail> {
+    let alloc = rt.alloc();
+    for (text, bound) in [
+        (b"open 0 stuck A\n".as_slice(), 0),
+        (
+            b"open 9223372036854775807 stuck A\n".as_slice(),
+            9_223_372_036_854_775_807,
+        ),
+    ] {
+        let claim = Claim::Partial { bound, stuck: 1 };
+        assert_eq!(rt; verdict(alloc, text)?, Ok(claim));
+    }
+    for (text, cause) in [
+        (b"open 1 stuck S\n".as_slice(), Cause::Layout),
+        (b"open 1 stuck AA\n".as_slice(), Cause::Layout),
+        (
+            b"open 9223372036854775808 stuck S\n".as_slice(),
+            Cause::Limit,
+        ),
+        (b"open -1 stuck A\n".as_slice(), Cause::Limit),
+        (b"open 1 stuck\n".as_slice(), Cause::Form),
+        (b"open 1 stuck \n".as_slice(), Cause::Form),
+        (b"open 1 stuck A B\n".as_slice(), Cause::Form),
+        (b"open 01 stuck A\n".as_slice(), Cause::Form),
+        (b"open A stuck 1\n".as_slice(), Cause::Form),
+        (b"open 1 left A\n".as_slice(), Cause::Form),
+    ] {
+        let want = ItemFault::Refused(Refusal { line: 1, cause });
+        assert_eq!(rt; verdict(alloc, text)?, Err(want));
     }
     Ok(())
 }

@@ -16,3 +16,7 @@ returns-in-Gap c =
 pub returns-in-Infeasible : goal.returns-in-Infeasible
 returns-in-Infeasible c =
     subst (λ (claim : Claim). (rows : List Row) → IsTrue c.all_dead.result ↔ BoundAgrees c.args.budget (kept_from rows c.args.tree.now) claim) (sym c.in-Infeasible.is) c.all_dead.ensures
+
+pub returns-in-Partial : goal.returns-in-Partial
+returns-in-Partial c =
+    subst (λ (claim : Claim). (rows : List Row) → IsTrue c.has_worked.result ↔ BoundAgrees c.args.budget (kept_from rows c.args.tree.now) claim) (sym c.in-Partial.is) c.has_worked.ensures

@@ -1,6 +1,5 @@
 use Rattle.proof_checker.proofs.claims.has_gap.Goals as goal
-use Rattle.std.proofs.Common.{sym, ◌∙◌}
 
 pub returns : goal.returns
 returns c = λ rows.
-    (λ t. ((c.has_least.ensures rows).0 t, c.if-bound-cost.false, sym c.works.ensures.works ∙ c.if-works-budget.false), λ h. (c.has_least.ensures rows).1 h.0)
+    (λ t. let h = (c.has_worked.ensures rows).0 t in (h.0, c.if-bound-cost.false, h.1), λ h. (c.has_worked.ensures rows).1 (h.0, h.2))

@@ -23,7 +23,7 @@ returns-in-Err-clause-refused c =
     let is = subst (λ (marks : List Mark). IsValue s arcs rows marks work.weights b.0) c.mark_arcs.ensures.marks b.1 in
     let first = subst (λ (z : ℤ). MayNotAct s arcs rows c.mark_arcs.new.into (nat_abs z) work.act c.in-Err.cause) back c.in-Err.ensures.refused in
     let may = subst (λ (marks : List Mark). MayNotAct s arcs rows marks (nat_abs bound) work.act c.in-Err.cause) c.mark_arcs.ensures.marks first in
-    work_refused s arcs tree.budget (kept_from rows tree) work.node work.weights work.act c.in-Err.cause u.0 b.0 (nat_abs bound) c.requires.room (u.1, u.2) c.requires.no_weights is b.2 may
+    work_refused s arcs tree.budget (kept_from rows tree) work.node work.weights work.act c.in-Err.cause u.0 b.0 (nat_abs bound) c.requires.room (u.1, u.2) c.requires.lawful c.requires.few is b.2 may
 
 pub returns-in-Ok-clause-worked : goal.returns-in-Ok-clause-worked
 returns-in-Ok-clause-worked c =
@@ -42,7 +42,7 @@ returns-in-Ok-clause-worked c =
     let may = subst (λ (marks : List Mark). MayAct s arcs rows marks (nat_abs bound) work.act (nat_abs after)) c.mark_arcs.ensures.marks first in
     let next = c.do_act.ensures u.0 u.1 ∙ ap (λ (z : ℤ). tree_after tree work.node u.0 work.act (nat_abs z)) (small_back after c.in-Ok.ensures.not_negative c.in-Ok.ensures.small) in
     subst (λ (t : TreeState). IsWorked s arcs tree.budget (kept_from rows tree) work.node work.weights work.act (kept_from rows t)) (sym next)
-    (work_done s arcs tree.budget rows tree work.node work.weights work.act u.0 b.0 (nat_abs bound) (nat_abs after) c.requires.room (u.1, u.2) c.requires.no_weights is b.2 may)
+    (work_done s arcs tree.budget rows tree work.node work.weights work.act u.0 b.0 (nat_abs bound) (nat_abs after) c.requires.room (u.1, u.2) c.requires.lawful c.requires.few is b.2 may)
 
 pub returns-in-Ok-clause-tree_budget : goal.returns-in-Ok-clause-tree_budget
 returns-in-Ok-clause-tree_budget c = ap (λ (t : TreeState). t.budget) (c.do_act.ensures c.requires.unworked.0 c.requires.unworked.1)

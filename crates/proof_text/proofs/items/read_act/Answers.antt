@@ -1,4 +1,3 @@
-use Rattle.std.proofs.Common.{[]}
 use Rattle.cable_definitions.specs.Refusal.{AtWeights}
 use Rattle.cable_text.specs.Lines.{ahead}
 use Rattle.proof_text.specs.Words.{held}
@@ -12,6 +11,6 @@ returns-in-Ok-clause-reads g c =
     c.in_default.ensures.found c.text.ensures c.words_of.ensures c.in-Ok.ensures.good
 
 pub returns-in-Err-act_in-clause-refused : goal.returns-in-Err-act_in-clause-refused
-returns-in-Err-act_in-clause-refused g c = rw c.refused.ensures (λ s r v e.
-    refused_here s r (AtWeights v 0 []) (ahead c.args.lines.now.pending (g.S.Source.left c.args.src.now)) (ahead c.next_line.new.lines.pending (g.S.Source.left c.next_line.new.src)) c.next_line.new.lines.text c.text.result.now (held c.words_of.result) c.args.lines.now.lines c.next_line.new.lines.number c.in-Err-act_in.cause
-    c.in_default.ensures.found c.text.ensures c.words_of.ensures (c.in-Err-act_in.ensures.bad v []) e c.next_line.ensures.number)
+returns-in-Err-act_in-clause-refused g c = rw c.refused.ensures (λ s r v weights e.
+    refused_here s r (AtWeights v 0 weights) (ahead c.args.lines.now.pending (g.S.Source.left c.args.src.now)) (ahead c.next_line.new.lines.pending (g.S.Source.left c.next_line.new.src)) c.next_line.new.lines.text c.text.result.now (held c.words_of.result) c.args.lines.now.lines c.next_line.new.lines.number c.in-Err-act_in.cause
+    c.in_default.ensures.found c.text.ensures c.words_of.ensures (c.in-Err-act_in.ensures.bad v weights) e c.next_line.ensures.number)

@@ -1,7 +1,7 @@
 use Rattle.std.proofs.Common.{subst}
 use Rattle.proof_text.specs.Said.{IsClaim}
 use Rattle.proof_text.proofs.Standing.{if_none}
-use Rattle.proof_text.proofs.Claims.{bad_optimal, bad_gap_first, bad_gap_second}
+use Rattle.proof_text.proofs.Claims.{bad_optimal, bad_gap_first, bad_gap_second, bad_open}
 use Rattle.proof_text.proofs.judging.claim_within.Goals as goal
 
 pub returns-in_err-sum_in-in-Optimal-clause-none : goal.returns-in_err-sum_in-in-Optimal-clause-none
@@ -14,3 +14,7 @@ returns-in_err-cost-in-Gap-clause-none c =
 pub returns-in_err-bound-in-Gap-clause-none : goal.returns-in_err-bound-in-Gap-clause-none
 returns-in_err-bound-in-Gap-clause-none c =
     if_none c.from_residual-in_err-bound-in-Gap.result (λ raw h. bad_gap_second c.in-Gap.cost c.in-Gap.bound c.in_err-bound-in-Gap.ensures.none raw (subst (λ a. IsClaim a raw) c.in-Gap.is h))
+
+pub returns-in_err-bound-in-Open-clause-none : goal.returns-in_err-bound-in-Open-clause-none
+returns-in_err-bound-in-Open-clause-none c =
+    if_none c.from_residual-in_err-bound-in-Open.result (λ raw h. bad_open c.in-Open.bound c.in-Open.stuck.now c.in_err-bound-in-Open.ensures.none raw (subst (λ a. IsClaim a raw) c.in-Open.is h))

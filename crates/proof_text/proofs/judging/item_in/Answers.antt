@@ -13,12 +13,12 @@ returns-in-None-clause-bad c =
 pub returns-in_default-count_in-clause-bad : goal.returns-in_default-count_in-clause-bad
 returns-in_default-count_in-clause-bad c =
     let h = c.in-Some-numbers_after.ensures.some in
-    (WorkLine h.0 h.1, record { words_are = h.2; members = tt; allowed = refl }, λ w. bad_one (within (Some h.0) (pos 1) (pos 100001)) (within (Some h.1) (pos 0) (pos 0) ∷ []) (c.in_default-count_in.ensures.none h.0 h.3) w.0)
+    (WorkLine h.0 h.1, record { words_are = h.2; members = tt; allowed = refl }, λ w. bad_one (within (Some h.0) (pos 1) (pos 100001)) (within (Some h.1) (pos 0) (pos 1024) ∷ []) (c.in_default-count_in.ensures.none h.0 h.3) w.0)
 
 pub returns-in-None-count_in-clause-bad : goal.returns-in-None-count_in-clause-bad
 returns-in-None-count_in-clause-bad c =
     let h = c.in-Some-numbers_after.ensures.some in
-    (WorkLine h.0 h.1, record { words_are = h.2; members = tt; allowed = refl }, λ w. bad_second (within (Some h.0) (pos 1) (pos 100001)) (within (Some h.1) (pos 0) (pos 0)) [] (c.in-None-count_in.ensures.none h.1 h.4) w.0)
+    (WorkLine h.0 h.1, record { words_are = h.2; members = tt; allowed = refl }, λ w. bad_second (within (Some h.0) (pos 1) (pos 100001)) (within (Some h.1) (pos 0) (pos 1024)) [] (c.in-None-count_in.ensures.none h.1 h.4) w.0)
 
 pub returns-in-None-count_in-2-clause-bad : goal.returns-in-None-count_in-2-clause-bad
 returns-in-None-count_in-2-clause-bad c =

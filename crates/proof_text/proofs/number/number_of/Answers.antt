@@ -7,4 +7,4 @@ use Rattle.proof_text.proofs.number.number_of.Goals as goal
 pub returns-in-Ok-clause-some : goal.returns-in-Ok-clause-some
 returns-in-Ok-clause-some c =
     rw (to_z-of_z w128 c.in-Ok.value (omega (arith, ints, c.in-Ok.ensures.within.0, c.in-Ok.ensures.within.1)))
-    (small_read c.args.word.now c.in-Ok.value c.in-Ok.ensures.ok (omega (arith, ints, c.in-Ok.ensures.within.0)) (omega (arith, ints, c.in-Ok.ensures.within.1)))
+    (small_read c.args.word.now c.in-Ok.value c.in-Ok.ensures.ok c.in-Ok.ensures.within.0 c.in-Ok.ensures.within.1)

@@ -1,29 +1,43 @@
-use Rattle.std.proofs.Common.{sym, ap, ◌∙◌}
-use Rattle.cable_definitions.specs.Text.{claim_line}
+use Rattle.std.proofs.Common.{subst}
+use Rattle.cable_definitions.specs.Text.{claim_line, Whole}
 use Rattle.cable_definitions.specs.Refusal.{ClaimLine, AtCables}
+use Rattle.cable_definitions.specs.declared.claim.Cause.TheVariants.{Layout}
 use Rattle.cable_text.specs.Lines.{ahead}
-use Rattle.proof_text.specs.Words.{held}
-use Rattle.proof_text.proofs.Claims.{claim_of, claim_spelled}
-use Rattle.proof_text.proofs.Streams.{line_of_good, refused_here, line_given}
+use Rattle.proof_text.specs.Words.{held, IsCut}
+use Rattle.proof_text.specs.Judged.{verdict_of}
+use Rattle.proof_text.proofs.Claims.{claim_spelled, claim_in_range, claim_built, no_turbine}
+use Rattle.proof_text.proofs.Streams.{line_of_good, refused_here, refused_next, line_given}
 use Rattle.proof_text.proofs.reading.read_claim.Goals as goal
 
-pub returns-in-Ok-clause-reads : goal.returns-in-Ok-clause-reads
-returns-in-Ok-clause-reads g c =
-    let h = c.in-Ok.ensures.good in
-    let of = claim_of c.args.site.now h.0 c.in-Ok.claim h.1 h.2.standing.allowed in (
-      h.0,
+pub returns-in-Some-clause-reads : goal.returns-in-Some-clause-reads
+returns-in-Some-clause-reads g c =
+    let of = c.in-Some.ensures.some in (
+      verdict_of c.in-Ok.claim,
       of,
-      λ r e. line_of_good c.args.site.now r (AtCables 0) (ahead c.args.lines.now.pending (g.S.Source.left c.args.src.now)) (ahead c.next_line.new.lines.pending (g.S.Source.left c.next_line.new.src)) c.next_line.new.lines.text c.text.result.now (held c.words_of.result) (ClaimLine h.0)
-          c.in_default.ensures.found c.text.ensures c.words_of.ensures h.2 e (c.in-Ok.claim, of),
+      λ r e. line_of_good c.args.site.now r (AtCables 0) (ahead c.args.lines.now.pending (g.S.Source.left c.args.src.now)) (ahead c.next_line.new.lines.pending (g.S.Source.left c.next_line.new.src)) c.next_line.new.lines.text c.text.result.now (held c.words_of.result) (ClaimLine (verdict_of c.in-Ok.claim))
+          c.in_default.ensures.found c.text.ensures c.words_of.ensures c.in-Ok.ensures.good e (c.in-Some.claim, of),
     )
 
-pub returns-in-Ok-clause-text : goal.returns-in-Ok-clause-text
-returns-in-Ok-clause-text g c =
+pub returns-in-Some-clause-text : goal.returns-in-Some-clause-text
+returns-in-Some-clause-text g c =
     let h = c.in-Ok.ensures.good in
-    line_given (AtCables 0) (ahead c.args.lines.now.pending (g.S.Source.left c.args.src.now)) (ahead c.next_line.new.lines.pending (g.S.Source.left c.next_line.new.src)) c.next_line.new.lines.text c.text.result.now (held c.words_of.result) (ClaimLine h.0) (claim_line c.args.site.now c.in-Ok.claim)
-    c.in_default.ensures.found c.text.ensures c.words_of.ensures h.2.standing (ap (λ k. claim_line c.args.site.now k) (sym h.1) ∙ claim_spelled c.args.site.now h.0 h.2.standing.allowed h.2.limits.0)
+    line_given (AtCables 0) (ahead c.args.lines.now.pending (g.S.Source.left c.args.src.now)) (ahead c.next_line.new.lines.pending (g.S.Source.left c.next_line.new.src)) c.next_line.new.lines.text c.text.result.now (held c.words_of.result) (ClaimLine (verdict_of c.in-Ok.claim)) (claim_line c.args.site.now c.in-Some.claim)
+    c.in_default.ensures.found c.text.ensures c.words_of.ensures h.standing (claim_spelled c.args.site.now (verdict_of c.in-Ok.claim) c.in-Some.claim c.in-Some.ensures.some h.limits.0)
+
+pub returns-in-Some-clause-range : goal.returns-in-Some-clause-range
+returns-in-Some-clause-range g c = claim_in_range c.args.site.now (verdict_of c.in-Ok.claim) c.in-Some.claim c.in-Some.ensures.some c.in-Ok.ensures.good.limits.0
+
+pub returns-in-Some-clause-built : goal.returns-in-Some-clause-built
+returns-in-Some-clause-built g c = claim_built c.in-Some.claim
 
 pub returns-in-Err-claim_in-clause-refused : goal.returns-in-Err-claim_in-clause-refused
 returns-in-Err-claim_in-clause-refused g c = rw c.refused.ensures (λ r e.
     refused_here c.args.site.now r (AtCables 0) (ahead c.args.lines.now.pending (g.S.Source.left c.args.src.now)) (ahead c.next_line.new.lines.pending (g.S.Source.left c.next_line.new.src)) c.next_line.new.lines.text c.text.result.now (held c.words_of.result) c.args.lines.now.lines c.next_line.new.lines.number c.in-Err-claim_in.cause
     c.in_default.ensures.found c.text.ensures c.words_of.ensures c.in-Err-claim_in.ensures.bad e c.next_line.ensures.number)
+
+pub returns-in-None-clause-refused : goal.returns-in-None-clause-refused
+returns-in-None-clause-refused g c =
+    let cut : IsCut c.next_line.new.lines.text (held c.words_of.result) = subst (λ t. IsCut t (held c.words_of.result)) c.text.ensures c.words_of.ensures in
+    rw c.refused-in-None.ensures (λ r e.
+    refused_next c.args.site.now r (ahead c.args.lines.now.pending (g.S.Source.left c.args.src.now)) (ahead c.next_line.new.lines.pending (g.S.Source.left c.next_line.new.src)) (Whole c.next_line.new.lines.text) c.args.lines.now.lines c.next_line.new.lines.number Layout c.next_line.ensures.number c.in_default.ensures.found
+    (no_turbine c.args.site.now r c.next_line.new.lines.text (held c.words_of.result) (verdict_of c.in-Ok.claim) e cut c.in-Ok.ensures.good c.in-None.ensures.none))

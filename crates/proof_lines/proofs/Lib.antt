@@ -1,0 +1,2 @@
+-- the line of a row, part by part
+pub mod RowLine

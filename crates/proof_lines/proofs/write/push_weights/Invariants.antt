@@ -1,0 +1,11 @@
+use Rattle.std.proofs.Common.{Ok, take, map}
+use Rattle.std.specs.List.{concat}
+use Rattle.cable_text.specs.declared.stream.Failed.{Failed}
+use Rattle.cable_text.specs.Stream.{Writes}
+use Rattle.cable_definitions.specs.Text.{weight_line}
+use Rattle.proof_lines.proofs.write.push_weights.Given as goal
+
+abbrev pub invariant-loop-weight : goal.invariant-loop-weight
+invariant-loop-weight g l =
+    Writes {A = Unit {0}} {E = Failed} (Ok tt) (g.O.Sink.taken l.initial.out) (g.O.Sink.taken l.out) (g.O.Sink.faults l.initial.out) (g.O.Sink.faults l.out)
+    (concat (map weight_line (take l.weight-index l.weights)))

@@ -1,0 +1,260 @@
+ghost use Rattle.std.specs.Prelude.{◌≡◌, ◌∷◌, [], ◌++◌, ◌<◌, length, map, codes, All, slice_get};
+ghost use Rattle.std.specs.List.{concat};
+ghost use Rattle.std.specs.Fmt.{decimal};
+ghost use Rattle.cable_definitions.specs.Text.{line, cable_line, claim_line, row_line, weight_line, act_line, why_words, kind_word, item_lines};
+ghost use Rattle.cable_definitions.specs.Tree.{WorkItem};
+ghost use Rattle.cable_text.specs.Stream.{Writes};
+ghost use Rattle.site_text.specs.Line.{field_text};
+ghost use Rattle.proof_lines.specs.Written.{IsCableOf, IsClaimOf, layout_text, spaced_number};
+
+use branch_tree::Work;
+use cable_definitions::cable::Cable;
+use cable_definitions::claim::Claim;
+use cable_definitions::row::{Act, RowKind, Why};
+use cable_text::{Failed, Sink, push_number};
+use layout_meaning::Layout;
+use site_model::Site;
+use site_text::{Field, name_of, push_line};
+
+/// A number that isn't negative, as a field of a line.
+fn count_of(value: u64) -> Field<'static>
+    ensures { field_text result ≡ decimal value }
+{
+    Field::Number(i128::from(value))
+}
+
+/// Appends the line `budget N` of a document.
+///
+/// # Errors
+///
+/// `Failed` only where the count of `out` rose or stands at its last value. Some first part of the
+/// line was appended then.
+pub fn write_budget<O: Sink>(budget: u32, out: &mut O) -> Result<(), Failed>
+    ensures { Writes result (O.taken out.old) (O.taken out.new) (O.faults out.old)
+        (O.faults out.new) (line (codes "budget" ∷ decimal budget ∷ [])) }
+{
+    push_line(b"budget", &[count_of(u64::from(budget))], out)
+}
+
+/// Appends the line `layout K` with the number of cables, and a line for each cable, in the order of
+/// the layout.
+///
+/// # Errors
+///
+/// `Failed` only where the count of `out` rose or stands at its last value. Some first part of the
+/// lines was appended then.
+pub fn write_layout<O: Sink>(site: &Site, layout: &Layout, out: &mut O) -> Result<(), Failed>
+    requires { All (IsCableOf site.now) layout.now }
+    ensures { Writes result (O.taken out.old) (O.taken out.new) (O.faults out.old)
+        (O.faults out.new) (layout_text site.now layout.now) }
+{
+    push_header(layout, out)?;
+    push_cables(site, layout.cables(), out)
+}
+
+/// Appends the line `layout K` with the number of cables.
+fn push_header<O: Sink>(layout: &Layout, out: &mut O) -> Result<(), Failed>
+    ensures { Writes result (O.taken out.old) (O.taken out.new) (O.faults out.old)
+        (O.faults out.new) (line (codes "layout" ∷ decimal (length layout.now) ∷ [])) }
+{
+    let count = layout.cables().len() as u64;
+    push_line(b"layout", &[count_of(count)], out)
+}
+
+/// Appends a line for each cable.
+fn push_cables<O: Sink>(site: &Site, cables: &[Cable], out: &mut O) -> Result<(), Failed>
+    requires { All (IsCableOf site.now) cables.now }
+    ensures { Writes result (O.taken out.old) (O.taken out.new) (O.faults out.old)
+        (O.faults out.new) (concat (map (cable_line site.now) cables.now)) }
+{
+    for cable in cables {
+        push_cable(site, *cable, out)?;
+    }
+    Ok(())
+}
+
+/// Appends the line of a cable.
+fn push_cable<O: Sink>(site: &Site, cable: Cable, out: &mut O) -> Result<(), Failed>
+    requires { IsCableOf site.now cable }
+    ensures { Writes result (O.taken out.old) (O.taken out.new) (O.faults out.old)
+        (O.faults out.new) (cable_line site.now cable) }
+{
+    let points = site.points();
+    let from = Field::Word(name_of(points, cable.from));
+    let to = Field::Word(name_of(points, cable.to));
+    push_line(b"cable", &[from, to, count_of(u64::from(cable.grade))], out)
+}
+
+/// Appends the verdict line of a claim and the line `end document`.
+///
+/// # Errors
+///
+/// `Failed` only where the count of `out` rose or stands at its last value. Some first part of the
+/// lines was appended then.
+pub fn write_claim<O: Sink>(site: &Site, claim: Claim, out: &mut O) -> Result<(), Failed>
+    requires { IsClaimOf site.now claim }
+    ensures { Writes result (O.taken out.old) (O.taken out.new) (O.faults out.old)
+        (O.faults out.new) (claim_line site.now claim ++ line (codes "end" ∷ codes "document" ∷ [])) }
+{
+    push_claim(site, claim, out)?;
+    push_line(b"end", &[Field::Word(b"document")], out)
+}
+
+/// Appends the verdict line of a claim.
+fn push_claim<O: Sink>(site: &Site, claim: Claim, out: &mut O) -> Result<(), Failed>
+    requires { IsClaimOf site.now claim }
+    ensures { Writes result (O.taken out.old) (O.taken out.new) (O.faults out.old)
+        (O.faults out.new) (claim_line site.now claim) }
+{
+    match claim {
+        Claim::Optimal(cost) => push_line(b"optimal", &[count_of(cost)], out),
+        Claim::Gap { cost, bound } => push_line(b"gap", &[count_of(cost), count_of(bound)], out),
+        Claim::Partial { bound, stuck } => {
+            let name = Field::Word(name_of(site.points(), stuck));
+            push_line(
+                b"open",
+                &[count_of(bound), Field::Word(b"stuck"), name],
+                out,
+            )
+        }
+        Claim::Infeasible => push_line(b"infeasible", &[], out),
+    }
+}
+
+/// Appends the line of a row: its kind and its members.
+///
+/// # Errors
+///
+/// `Failed` only where the count of `out` rose or stands at its last value. Some first part of the
+/// line was appended then.
+pub fn write_row<O: Sink>(kind: RowKind, members: &[u32], out: &mut O) -> Result<(), Failed>
+    ensures { Writes result (O.taken out.old) (O.taken out.new) (O.faults out.old)
+        (O.faults out.new) (row_line (record { kind = kind; members = members.now })) }
+{
+    out.push(b"row ")?;
+    push_kind(kind, out)?;
+    push_members(members, out)?;
+    out.push(b"\n")
+}
+
+/// Appends the word of a row's kind.
+fn push_kind<O: Sink>(kind: RowKind, out: &mut O) -> Result<(), Failed>
+    ensures { Writes result (O.taken out.old) (O.taken out.new) (O.faults out.old)
+        (O.faults out.new) (kind_word kind) }
+{
+    match kind {
+        RowKind::Out => out.push(b"out"),
+        RowKind::Flow => out.push(b"flow"),
+        RowKind::Inlet => out.push(b"inlet"),
+        RowKind::Bend => out.push(b"bend"),
+        RowKind::Power => out.push(b"power"),
+        RowKind::One => out.push(b"one"),
+        RowKind::Cut => out.push(b"cut"),
+    }
+}
+
+/// Appends the members with a space before each.
+fn push_members<O: Sink>(members: &[u32], out: &mut O) -> Result<(), Failed>
+    ensures { Writes result (O.taken out.old) (O.taken out.new) (O.faults out.old)
+        (O.faults out.new) (concat (map spaced_number members.now)) }
+{
+    for member in members {
+        push_member(*member, out)?;
+    }
+    Ok(())
+}
+
+/// Appends a space and a number.
+fn push_member<O: Sink>(member: u32, out: &mut O) -> Result<(), Failed>
+    ensures { Writes result (O.taken out.old) (O.taken out.new) (O.faults out.old)
+        (O.faults out.new) (spaced_number member) }
+{
+    out.push(b" ")?;
+    push_number(i128::from(member), out)
+}
+
+/// Appends the lines of a work: its node and the number of its weights, a line for each weight, and
+/// the act.
+///
+/// # Errors
+///
+/// `Failed` only where the count of `out` rose or stands at its last value. Some first part of the
+/// lines was appended then.
+pub fn write_work<O: Sink>(work: &Work, out: &mut O) -> Result<(), Failed>
+    ensures { Writes result (O.taken out.old) (O.taken out.new) (O.faults out.old)
+        (O.faults out.new) (item_lines (WorkItem work.now.node work.now.weights work.now.act)) }
+{
+    let weights = work.weights.as_slice();
+    push_node(work.node, weights.len() as u64, out)?;
+    push_weights(weights, out)?;
+    push_act(work.act, out)
+}
+
+/// Appends the line `work NODE COUNT`.
+fn push_node<O: Sink>(node: u32, count: u64, out: &mut O) -> Result<(), Failed>
+    ensures { Writes result (O.taken out.old) (O.taken out.new) (O.faults out.old)
+        (O.faults out.new) (line (codes "work" ∷ decimal node ∷ decimal count ∷ [])) }
+{
+    push_line(b"work", &[count_of(u64::from(node)), count_of(count)], out)
+}
+
+/// Appends a line for each weight.
+fn push_weights<O: Sink>(weights: &[(u32, i128)], out: &mut O) -> Result<(), Failed>
+    ensures { Writes result (O.taken out.old) (O.taken out.new) (O.faults out.old)
+        (O.faults out.new) (concat (map weight_line weights.now)) }
+{
+    for weight in weights {
+        push_weight(*weight, out)?;
+    }
+    Ok(())
+}
+
+/// Appends the line of a weight.
+fn push_weight<O: Sink>(weight: (u32, i128), out: &mut O) -> Result<(), Failed>
+    ensures { Writes result (O.taken out.old) (O.taken out.new) (O.faults out.old)
+        (O.faults out.new) (weight_line weight) }
+{
+    let row = count_of(u64::from(weight.0));
+    push_line(b"by", &[row, Field::Number(weight.1)], out)
+}
+
+/// Appends the line of an act.
+fn push_act<O: Sink>(act: Act, out: &mut O) -> Result<(), Failed>
+    ensures { Writes result (O.taken out.old) (O.taken out.new) (O.faults out.old)
+        (O.faults out.new) (act_line act) }
+{
+    match act {
+        Act::Split(arc) => push_line(b"split", &[count_of(u64::from(arc))], out),
+        Act::Stop => push_line(b"stop", &[], out),
+        Act::Dead(why) => push_why(why, out),
+        Act::Full => push_line(b"full", &[], out),
+    }
+}
+
+/// Appends the line of a reason for which a node is dead.
+fn push_why<O: Sink>(why: Why, out: &mut O) -> Result<(), Failed>
+    ensures { Writes result (O.taken out.old) (O.taken out.new) (O.faults out.old)
+        (O.faults out.new) (line (codes "dead" ∷ why_words why)) }
+{
+    match why {
+        Why::Row(row) => push_reason(b"row", row, out),
+        Why::Pair(a, b) => {
+            let first = count_of(u64::from(a));
+            let second = count_of(u64::from(b));
+            push_line(b"dead", &[Field::Word(b"pair"), first, second], out)
+        }
+        Why::Load(point) => push_reason(b"load", point, out),
+        Why::Loop(point) => push_reason(b"loop", point, out),
+        Why::Power(point) => push_reason(b"power", point, out),
+        Why::Ceiling => push_line(b"dead", &[Field::Word(b"ceiling")], out),
+    }
+}
+
+/// Appends the line of a reason with one number.
+fn push_reason<O: Sink>(word: &[u8], number: u32, out: &mut O) -> Result<(), Failed>
+    ensures { Writes result (O.taken out.old) (O.taken out.new) (O.faults out.old)
+        (O.faults out.new) (line (codes "dead" ∷ word.now ∷ decimal number ∷ [])) }
+{
+    let field = count_of(u64::from(number));
+    push_line(b"dead", &[Field::Word(word), field], out)
+}

@@ -1,0 +1,72 @@
+//! Points by their names.
+
+ghost use Rattle.std.specs.Prelude.{◌≡◌, ◌≢◌, ◌<◌, ◌↔◌, ℕ, length, Any, IfSome, IfNone, IsTrue};
+ghost use Rattle.cable_definitions.specs.declared.claim.Claim.{Claim as AnyClaim};
+ghost use Rattle.cable_definitions.specs.Arcs.{kind_of, is_turbine};
+ghost use Rattle.cable_definitions.specs.Text.{name_of};
+ghost use Rattle.cable_definitions.specs.Site.{IsValid};
+ghost use Rattle.cable_definitions.specs.Refusal.{IsClaimOf};
+ghost use Rattle.proof_text.specs.Judged.{verdict_of};
+
+use crate::judging::NamedClaim;
+use crate::words::is_word;
+use cable_definitions::claim::Claim;
+use cable_definitions::site::Kind;
+use site_model::Site;
+
+/// The number of the point with this name.
+pub fn point_named(site: &Site, name: &[u8]) -> Option<u32>
+    ensures some { IfSome result (λ p. (p < length site.now.points) × (name_of site.now p ≡ name.now)) }
+    ensures none { IfNone result (¬ (Any (λ p. p.name ≡ name.now) site.now.points)) }
+    ensures valid { IsValid site.now }
+{
+    let points = site.points();
+    for (number, point) in points.iter().enumerate() {
+        if is_word(point.name.as_slice(), name) {
+            return Some(number as u32);
+        }
+    }
+    None
+}
+
+/// Whether a turbine stands at the point.
+fn is_turbine_at(site: &Site, point: u32) -> bool
+    requires { point < length site.now.points }
+    ensures { IsTrue result ↔ IsTrue (is_turbine (kind_of site.now point)) }
+{
+    match site.points()[point as usize].kind {
+        Kind::Turbine { .. } => true,
+        Kind::Substation { .. } => false,
+        Kind::Bend => false,
+    }
+}
+
+/// The number of the turbine with this name.
+fn turbine_named(site: &Site, name: &[u8]) -> Option<u32>
+    ensures some { IfSome result (λ p. IsTrue (is_turbine (kind_of site.now p)) × (name_of site.now p ≡ name.now)) }
+    ensures none { IfNone result ((p : ℕ) → IsTrue (is_turbine (kind_of site.now p)) → name_of site.now p ≢ name.now) }
+{
+    let Some(number) = point_named(site, name) else {
+        return None;
+    };
+    if is_turbine_at(site, number) {
+        return Some(number);
+    }
+    None
+}
+
+/// The claim of a verdict; none where it names no turbine of the site.
+pub fn claim_named(site: &Site, claim: NamedClaim) -> Option<Claim>
+    ensures some { IfSome result (λ c. IsClaimOf site.now (verdict_of claim.entry) c) }
+    ensures none { IfNone result ((c : AnyClaim) → ¬ (IsClaimOf site.now (verdict_of claim.entry) c)) }
+{
+    match claim {
+        NamedClaim::Optimal(cost) => Some(Claim::Optimal(cost)),
+        NamedClaim::Gap { cost, bound } => Some(Claim::Gap { cost, bound }),
+        NamedClaim::Open { bound, stuck } => {
+            let stuck = turbine_named(site, stuck)?;
+            Some(Claim::Partial { bound, stuck })
+        }
+        NamedClaim::Infeasible => Some(Claim::Infeasible),
+    }
+}
