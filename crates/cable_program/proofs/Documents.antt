@@ -3,7 +3,6 @@ use Rattle.std.proofs.Common.{◌≡◌, ℕ, ◌+◌, ◌≤◌, ◌<◌, List,
 use Rattle.std.specs.Prelude.{◌^◌, All, Bool, Result, Ok, Err}
 use Rattle.std.specs.List.{concat}
 use Rattle.std.specs.Fmt.{decimal}
-use Rattle.std.proofs.lemmas.Bool.{false≢true}
 use Rattle.std.proofs.lemmas.List.Elements.{All-nil}
 use Rattle.cable_definitions.specs.declared.cable.Cable.{Cable}
 use Rattle.cable_definitions.specs.declared.cable.Arc.{Arc}
@@ -12,7 +11,6 @@ use Rattle.cable_definitions.specs.declared.claim.Claim.TheVariants.{Optimal, Ga
 use Rattle.cable_definitions.specs.declared.site.SiteCode.{SiteCode}
 use Rattle.cable_definitions.specs.Site.{Site, IsValid}
 use Rattle.cable_definitions.specs.Arcs.{AreArcs}
-use Rattle.cable_definitions.specs.Built.{IsBuiltClaim}
 use Rattle.cable_definitions.specs.Tree.{Item, LayoutAgrees}
 use Rattle.cable_definitions.specs.Text.{line, item_lines, cable_line, claim_line, site_lines, line_count, document_text}
 use Rattle.cable_definitions.specs.Items.{IsLineFault}
@@ -25,9 +23,10 @@ use Rattle.site_text.specs.Reading.{counted}
 use Rattle.site_input.proofs.Forms.{behind, first_fault}
 use Rattle.site_model.specs.declared.fault.SiteFault.{SiteFault}
 use Rattle.site_model.specs.declared.fault.SiteFault.TheVariants.{Refused as RefusedSite, Read as SiteRead, Memory as SiteMemory}
+use Rattle.proof_laws.proofs.FullLemma.{within-turbine}
 use Rattle.proof_laws.proofs.Sound.{says-document}
-use Rattle.plan_report.specs.Reported.{IsReported}
-use Rattle.plan_report.proofs.Legal.{legal_reported}
+use Rattle.plan_report.specs.Reported.{IsReported, NamesPoint}
+use Rattle.plan_report.proofs.Legal.{legal_reported, grown_reported}
 use Rattle.document_check.specs.declared.document.Accepted.{Accepted}
 use Rattle.document_check.specs.declared.document.DocumentFault.{DocumentFault}
 use Rattle.document_check.specs.declared.document.DocumentFault.TheVariants.{Refused as RefusedDocument, Read as DocumentRead, Memory as DocumentMemory}
@@ -144,16 +143,26 @@ document_fails input fault answer s arcs before middle lines start is valid are 
     subst (λ (f : Fault). ReadsDocument input (Err f)) (sym is) (fault_behind_ends input fault s arcs before middle lines start valid are gives told none number few refused read)
 
 -- the cables of a document can be reported
-cables_reported : (s : Site) (cables : List Cable) (claim : Claim) → IsBuiltClaim claim → LayoutAgrees s cables claim → All (IsReported s cables) cables
-cables_reported s cables (Optimal c) built h = legal_reported s cables h.0
-cables_reported s cables (Gap c b) built h = legal_reported s cables h.0
-cables_reported s cables (Partial b stuck) built h = absurd (false≢true built)
-cables_reported s cables Infeasible built h = subst (λ (xs : List Cable). All (IsReported s xs) xs) (sym h) (All-nil (IsReported s []))
+cables_reported : (s : Site) (cables : List Cable) (claim : Claim) → LayoutAgrees s cables claim → All (IsReported s cables) cables
+cables_reported s cables (Optimal c) h = legal_reported s cables h.0
+cables_reported s cables (Gap c b) h = legal_reported s cables h.0
+cables_reported s cables (Partial b stuck) h = grown_reported s cables h.grown
+cables_reported s cables Infeasible h = subst (λ (xs : List Cable). All (IsReported s xs) xs) (sym h) (All-nil (IsReported s []))
 
 pub document_reported : (input : Stream) (s : Site) (cables : List Cable) (claim : Claim) (checked : IsChecked input s claim) → checked.document.cables ≡ cables → All (IsReported s cables) cables
 document_reported input s cables claim checked same =
     let document = checked.document in
-    subst (λ (xs : List Cable). All (IsReported s xs) xs) same (cables_reported s document.cables claim document.built.claim_built document.agrees.0)
+    subst (λ (xs : List Cable). All (IsReported s xs) xs) same (cables_reported s document.cables claim document.agrees.0)
+
+-- a turbine that its claim names is a point of the site
+claim_reported : (s : Site) (cables : List Cable) (claim : Claim) → LayoutAgrees s cables claim → NamesPoint s claim
+claim_reported s cables (Optimal c) h = tt
+claim_reported s cables (Gap c b) h = tt
+claim_reported s cables (Partial b stuck) h = within-turbine s stuck h.turbine_is
+claim_reported s cables Infeasible h = tt
+
+pub document_named : (input : Stream) (s : Site) (claim : Claim) → IsChecked input s claim → NamesPoint s claim
+document_named input s claim checked = let document = checked.document in claim_reported s document.cables claim document.agrees.0
 
 -- the report of a document that is accepted, whole or in part
 is_report : (input : Stream) (s : Site) (cables : List Cable) (claim : Claim) (checked : IsChecked input s claim) → checked.document.cables ≡ cables → IsReport input (report_text s cables claim)

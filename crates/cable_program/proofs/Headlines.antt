@@ -24,16 +24,16 @@ use Rattle.document_laws.proofs.Yes.{yes-same, yes-stands}
 use Rattle.document_laws.proofs.Judged.{judged-same, judged-stands}
 use Rattle.cable_program.specs.declared.ending.Ending.{Ending}
 use Rattle.cable_program.specs.declared.ending.Ending.TheVariants.{Done, Usage, SiteRefused, Gap as EndsInGap, Partial as EndsOpen, Infeasible as EndsInfeasible, DocumentRefused, ReadFault, WriteFault, Memory}
-use Rattle.cable_program.specs.Ends.{Stream, Faulted, Told, Got, IsRead, PrintsPlan, PlanEnds, CheckEnds, SiteEnds, JudgeEnds, ReportEnds, IsJudgement, IsReport, CommandEnds, EndsWith, RanWell}
+use Rattle.cable_program.specs.Ends.{Stream, Faulted, Told, Got, IsRead, IsAboveNearest, PrintsPlan, PlanEnds, CheckEnds, SiteEnds, JudgeEnds, ReportEnds, IsJudgement, IsReport, CommandEnds, EndsWith, RanWell}
 
 -- ---- plan
 abbrev pub Promise : Site → ℕ → Stream → Stream → Ending → Type 0
-Promise s n input out ending = (printed : List ℕ) × (claim : Claim) × IsPlanned s n printed claim × Got out printed × EndsWith ending claim × IsAtEnd input.after
+Promise s n input out ending = (printed : List ℕ) × (claim : Claim) × IsPlanned s n printed claim × IsAboveNearest s claim × Got out printed × EndsWith ending claim × IsAtEnd input.after
 
-printed : (s t : Site) (n : ℕ) (text : List ℕ) (claim : Claim) (input out : Stream) (ending : Ending) → t ≡ s → IsRead input t → IsPlanned t n text claim → Got out text → EndsWith ending claim
+printed : (s t : Site) (n : ℕ) (text : List ℕ) (claim : Claim) (input out : Stream) (ending : Ending) → t ≡ s → IsRead input t → IsPlanned t n text claim → IsAboveNearest t claim → Got out text → EndsWith ending claim
     → Promise s n input out ending
-printed s t n text claim input out ending same read planned got ends =
-    (text, claim, subst (λ (u : Site). IsPlanned u n text claim) same planned, got, ends, read.whole)
+printed s t n text claim input out ending same read planned above got ends =
+    (text, claim, subst (λ (u : Site). IsPlanned u n text claim) same planned, subst (λ (u : Site). IsAboveNearest u claim) same above, got, ends, read.whole)
 
 too_many : (s t : Site) (n : ℕ) → t ≡ s → length s.points ≤ n → n < length t.points → ⊥
 too_many s t n same few many = absurd (omega (arith, few, many, ap (λ (u : Site). length u.points) same))
@@ -43,10 +43,10 @@ pub promise_of : (n : ℕ) (bytes : List ℕ) (s : Site) (input out note : Strea
     → RanWell input out note ending → Promise s n input out ending
 promise_of n bytes s input out note Done h b a few r =
     let plan = h.0.1 in
-    printed s plan.0 n plan.1 (Optimal h.0.0) input out Done (one_site bytes plan.0 s (plan.2.read bytes b) a) plan.2 plan.3 plan.4 (h.0.0, refl)
+    printed s plan.0 n plan.1 (Optimal h.0.0) input out Done (one_site bytes plan.0 s (plan.2.read bytes b) a) plan.2 plan.3 plan.4 plan.5 (h.0.0, refl)
 promise_of n bytes s input out note EndsInfeasible h b a few r =
     let plan = h.0 in
-    printed s plan.0 n plan.1 Infeasible input out EndsInfeasible (one_site bytes plan.0 s (plan.2.read bytes b) a) plan.2 plan.3 plan.4 refl
+    printed s plan.0 n plan.1 Infeasible input out EndsInfeasible (one_site bytes plan.0 s (plan.2.read bytes b) a) plan.2 plan.3 plan.4 plan.5 refl
 promise_of n bytes s input out note SiteRefused h b a few r =
     absurd (⊎_elim (λ fault. no_plan_fault bytes s h.0 h.1 a fault) (λ unbuilt. too_many s unbuilt.0 4 (one_site bytes unbuilt.0 s unbuilt.1 a) few unbuilt.2.many_points) (h.2 bytes b))
 promise_of n bytes s input out note ReadFault h b a few r = absurd (r.input_held h.0)

@@ -1,6 +1,6 @@
 -- The text of a plan from its parts, and what its writers ask for.
-use Rattle.std.proofs.Common.{◌≡◌, ℕ, ◌<◌, ◌≤◌, inr, List, [], ◌∷◌, ◌++◌, length, map, get_or, Option, refl, sym, ap, ◌∙◌, subst, append_assoc, arith}
-use Rattle.std.specs.Prelude.{◌^◌, All, AllPairs, codes}
+use Rattle.std.proofs.Common.{◌≡◌, ℕ, suc, ◌<◌, ◌≤◌, inr, List, [], ◌∷◌, ◌++◌, length, map, get_or, Option, refl, sym, ap, ◌∙◌, subst, append_assoc, arith}
+use Rattle.std.specs.Prelude.{◌^◌, IsTrue, All, AllPairs, codes}
 use Rattle.std.specs.List.{concat}
 use Rattle.std.specs.Fmt.{decimal}
 use Rattle.std.proofs.lemmas.List.Sums.{sum_by-le}
@@ -13,7 +13,7 @@ use Rattle.cable_definitions.specs.Site.{Site, IsValid}
 use Rattle.cable_definitions.specs.Arcs.{AreArcs, cost_of}
 use Rattle.cable_definitions.specs.Walk.{load}
 use Rattle.cable_definitions.specs.Layout.{IsLegal, cost}
-use Rattle.cable_definitions.specs.Tree.{Item, Kept, IsAccepted, LayoutAgrees, nothing_kept}
+use Rattle.cable_definitions.specs.Tree.{Node, Item, Kept, is_open_leaf, IsAccepted, LayoutAgrees, nothing_kept}
 use Rattle.cable_definitions.specs.Text.{line, site_lines, item_lines, cable_line, claim_line, document_text}
 use Rattle.cable_definitions.specs.Document.{IsClaimInRange}
 use Rattle.cable_definitions.specs.Plan.{IsPlanned}
@@ -21,10 +21,11 @@ use Rattle.cable_text.specs.Stream.{Appends, AppendsPrefix}
 use Rattle.cable_text.proofs.Writing.{Appends-then, AppendsPrefix-front, AppendsPrefix-then}
 use Rattle.layout_meaning.proofs.Costing.{cost_small, load_small_at}
 use Rattle.document_laws.proofs.Counting.{cables-most}
+use Rattle.proof_laws.proofs.Lists.{any_at}
 use Rattle.proof_laws.proofs.Sound.{sound-accepted, says-sound}
-use Rattle.proof_text.specs.Written.{IsCableOf, IsClaimOf, layout_text}
+use Rattle.proof_lines.specs.Written.{IsCableOf, IsClaimOf, layout_text}
 use Rattle.tree_search.specs.Found.{IsFinal, FindsPlan, WritesPart}
-use Rattle.cable_program.specs.Ends.{Stream, IsRead, PrintsPlan, PrintsPart}
+use Rattle.cable_program.specs.Ends.{Stream, IsRead, IsAboveNearest, PrintsPlan, PrintsPart}
 
 -- ---- parts of the text
 -- what stands before the items
@@ -127,6 +128,17 @@ tail_part input out middle later s n arcs cables claim read are first found part
     (AppendsPrefix-then out.before later out.after (head_text s n ++ concat (map item_lines found.items)) (tail_text s cables claim)
     (Appends-then out.before middle later (head_text s n) (concat (map item_lines found.items)) first found.written) part)
 
+-- the bound that was found is at least the sum of the least costs out of the turbines
+above_nearest : (s : Site) (arcs : List Arc) (n : ℕ) (before after : Option (List ℕ)) (cables : List Cable) (claim : Claim) → FindsPlan s arcs n before after cables claim → IsAboveNearest s claim
+above_nearest s arcs n before after cables (Optimal best) found = λ nearest total.
+    let leaf = any_at (λ (v : Node). IsTrue (is_open_leaf v.status) × (v.bound ≡ best)) found.kept.nodes found.agrees.1.reached in
+    let low = found.floor nearest total (suc leaf.0) leaf.1 leaf.2 in
+    let same : leaf.1.bound ≡ best = leaf.3.1 in
+    omega (arith, low, same)
+above_nearest s arcs n before after cables (Gap best bound) found = absurd found.final
+above_nearest s arcs n before after cables (Partial bound stuck) found = absurd found.final
+above_nearest s arcs n before after cables Infeasible found = tt
+
 -- the whole text
 pub printed_whole : (input out : Stream) (middle later : Option (List ℕ)) (s : Site) (n : ℕ) (arcs : List Arc) (cables : List Cable) (claim : Claim) → 1 ≤ n → n ≤ 50000 → IsRead input s → AreArcs s arcs
     → Appends out.before middle (head_text s n) → FindsPlan s arcs n middle later cables claim → Appends later out.after (tail_text s cables claim) → PrintsPlan n input out claim
@@ -154,4 +166,4 @@ printed_whole input out middle later s n arcs cables claim least most read are f
     } in
     let all = Appends-then out.before later out.after (head_text s n ++ concat (map item_lines found.items)) (tail_text s cables claim)
     (Appends-then out.before middle later (head_text s n) (concat (map item_lines found.items)) first found.written) last in
-    (s, text, read, planned, subst (λ (bytes : List ℕ). Appends out.before out.after bytes) (sym (document_parts s n found.items cables claim)) all)
+    (s, text, read, planned, above_nearest s arcs n middle later cables claim found, subst (λ (bytes : List ℕ). Appends out.before out.after bytes) (sym (document_parts s n found.items cables claim)) all)

@@ -1,14 +1,15 @@
 -- How a command may end, and what it leaves of its streams.
-use Rattle.std.specs.Prelude.{◌≡◌, ℕ, ◌⊎◌, List, Option, Some, Bool}
+use Rattle.std.specs.Prelude.{◌≡◌, ℕ, ◌≤◌, ◌⊎◌, List, Option, Some, Bool}
 use Rattle.cable_definitions.specs.declared.cable.Cable.{Cable}
 use Rattle.cable_definitions.specs.declared.cable.Rule.{Rule}
 use Rattle.cable_definitions.specs.declared.claim.Cause.{Cause}
 use Rattle.cable_definitions.specs.declared.claim.Claim.{Claim}
-use Rattle.cable_definitions.specs.declared.claim.Claim.TheVariants.{Optimal, Infeasible}
+use Rattle.cable_definitions.specs.declared.claim.Claim.TheVariants.{Optimal, Gap, Partial, Infeasible}
 use Rattle.cable_definitions.specs.declared.command.Command.{Command}
 use Rattle.cable_definitions.specs.declared.command.Command.TheVariants.{Plan, Check, Site as SiteCommand, Judge, Report}
 use Rattle.cable_definitions.specs.declared.site.SiteCode.{SiteCode}
 use Rattle.cable_definitions.specs.Site.{Site, IsValid}
+use Rattle.cable_definitions.specs.Budget.{IsNearest}
 use Rattle.cable_definitions.specs.Layout.{IsLegal, IsFirstBroken, cost}
 use Rattle.cable_definitions.specs.Tree.{Says}
 use Rattle.cable_definitions.specs.Text.{site_lines}
@@ -96,9 +97,16 @@ pub record IsRead (input : Stream) (s : Site) : Type 0 where
   pub read : (bytes : List ℕ) → Told input bytes → IsSiteOf bytes s
   pub whole : IsAtEnd input.after
 
+-- the bound of the claim is at least the sum of the least costs out of the turbines, where each turbine has an arc
+abbrev pub IsAboveNearest : Site → Claim → Type 0
+IsAboveNearest s (Optimal best) = (nearest : ℕ) → IsNearest s nearest → nearest ≤ best
+IsAboveNearest s (Gap best bound) = (nearest : ℕ) → IsNearest s nearest → nearest ≤ bound
+IsAboveNearest s (Partial bound stuck) = (nearest : ℕ) → IsNearest s nearest → nearest ≤ bound
+IsAboveNearest s Infeasible = Unit {0}
+
 -- a plan of the site that was read was printed with this claim
 abbrev pub PrintsPlan : ℕ → Stream → Stream → Claim → Type 0
-PrintsPlan n input out claim = (s : Site) × (printed : List ℕ) × IsRead input s × IsPlanned s n printed claim × Got out printed
+PrintsPlan n input out claim = (s : Site) × (printed : List ℕ) × IsRead input s × IsPlanned s n printed claim × IsAboveNearest s claim × Got out printed
 
 -- nothing was printed, or the first part of the text of a plan that was begun
 abbrev pub PrintsPart : ℕ → Stream → Stream → Type 0

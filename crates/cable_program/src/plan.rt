@@ -2,7 +2,7 @@ ghost use Rattle.std.specs.Prelude.{◌≡◌, ◌≤◌, [], ◌∷◌, ◌++�
 ghost use Rattle.std.specs.Fmt.{decimal};
 ghost use Rattle.cable_definitions.specs.Text.{line, site_lines, claim_line};
 ghost use Rattle.cable_text.specs.Stream.{Writes};
-ghost use Rattle.proof_text.specs.Written.{IsCableOf, IsClaimOf, layout_text};
+ghost use Rattle.proof_lines.specs.Written.{IsCableOf, IsClaimOf, layout_text};
 ghost use Rattle.cable_program.specs.Ends.{stream, PlanEnds, EndsWith};
 ghost use Rattle.cable_program.specs.PlanSteps.{PlanGives};
 ghost use Rattle.tree_search.specs.Found.{IsFinal};
@@ -14,7 +14,7 @@ use crate::planned::read_planned;
 use cable_definitions::claim::Claim;
 use cable_text::{Failed, Sink, Source};
 use candidate_cables::Arcs;
-use proof_text::{write_budget, write_claim, write_layout};
+use proof_lines::{write_budget, write_claim, write_layout};
 use site_model::Site;
 use site_text::write_site;
 use std::alloc::Global;

@@ -13,7 +13,7 @@ ghost use Rattle.cable_definitions.specs.Plan.{IsPlanned};
 ghost use Rattle.site_json.specs.Bytes.{IsSiteOf, IsFrontSite};
 ghost use Rattle.cable_text.specs.Stream.{IsAtEnd, Appends};
 ghost use Rattle.cable_program.specs.Words.{texts};
-ghost use Rattle.cable_program.specs.Ends.{stream, IsNoCommand, UsageEnds, CommandEnds, EndsWith, IsJudgement, IsReport, RanWell};
+ghost use Rattle.cable_program.specs.Ends.{stream, IsAboveNearest, IsNoCommand, UsageEnds, CommandEnds, EndsWith, IsJudgement, IsReport, RanWell};
 
 use crate::check::check;
 use crate::ending::Ending;
@@ -52,13 +52,14 @@ pub fn run<S: Source, O: Sink, E: Sink>(
 ) -> Ending
     // For every site that is planned so far and every budget, `plan` prints a document that `check` accepts:
     // its layout is legal at its cost, no legal layout costs less, and infeasible is printed only where
-    // there is no legal layout; unless a stream failed or memory ran out.
+    // there is no legal layout; its bound is at least the sum of the least costs out of the turbines; unless
+    // a stream failed or memory ran out.
     ensures headline { (n : ℕ) (bytes : List ℕ) (s : Site) → IsBuiltWords (texts words.now) (AnyCommand.Plan n 1) → S.left input.old ≡ Some bytes
         → IsSiteOf bytes s → IsBuiltSite s
         → RanWell (stream (S.left input.old) (S.left input.new) (S.faults input.old) (S.faults input.new))
         (stream (O.taken out.old) (O.taken out.new) (O.faults out.old) (O.faults out.new))
         (stream (E.taken note.old) (E.taken note.new) (E.faults note.old) (E.faults note.new)) result
-        → (printed : List ℕ) × (claim : Claim) × IsPlanned s n printed claim × Appends (O.taken out.old) (O.taken out.new) printed
+        → (printed : List ℕ) × (claim : Claim) × IsPlanned s n printed claim × IsAboveNearest s claim × Appends (O.taken out.old) (O.taken out.new) printed
         × EndsWith result claim × IsAtEnd (S.left input.new) }
 
     // `check` says yes to each document that is accepted, and then its claim is true.

@@ -5,6 +5,7 @@ mod plans;
 mod reports;
 mod sites;
 mod streams;
+mod weights;
 
 use crate::run::run;
 use cable_text::{MemorySink, MemorySource};

@@ -10,9 +10,7 @@ use Rattle.cable_definitions.specs.declared.site.Kind.{Kind}
 use Rattle.cable_definitions.specs.declared.site.Kind.TheVariants.{Turbine, Substation, Bend}
 use Rattle.cable_definitions.specs.declared.site.Point.{Point}
 use Rattle.cable_definitions.specs.Site.{Site}
-use Rattle.cable_definitions.specs.declared.cable.Rule.{Rule}
-use Rattle.cable_definitions.specs.declared.cable.Rule.TheVariants.{Range, Candidate, Start, Unjoined, Bend as BendRule, Lost, Overload, Feeders, Power, Branch, Clash}
-use Rattle.cable_definitions.specs.Layout.{Keeps, IsLegal, cost, Least, HasNone}
+use Rattle.cable_definitions.specs.Layout.{IsLegal, cost, Least, HasNone}
 use Rattle.plain_planner.proofs.Completeness.{completeness}
 use Rattle.plain_planner.specs.Choices.{cable_to, ChoiceAt, IsChoice, Completes, CompletesBelow, IsBest, cheaper}
 
@@ -123,20 +121,6 @@ pub chosen_alone : (s : Site) (chosen cables : List Cable) (p : ℕ) → length 
 chosen_alone s chosen cables p l c =
     let none = subst (λ (points : List Point). IsChoice s p points c.rest) (at_drop_all (λ (xs : List Point). xs) s.points p l) c.choice in
     c.joined ∙ ap (λ (rest : List Cable). chosen ++ rest) none ∙ append-nil chosen
-
--- a legal layout keeps each rule at each place
-pub kept_where_legal : (s : Site) (cables : List Cable) → IsLegal s cables → (rule : Rule) (i j : ℕ) → Keeps s cables rule i j
-kept_where_legal s cables l Range i j = l.range i
-kept_where_legal s cables l Candidate i j = l.candidate i
-kept_where_legal s cables l Start i j = l.start i
-kept_where_legal s cables l Unjoined p j = l.joined p
-kept_where_legal s cables l BendRule p j = l.bend p
-kept_where_legal s cables l Lost p j = l.ends p
-kept_where_legal s cables l Overload p j = l.capacity p
-kept_where_legal s cables l Feeders p j = l.feeders p
-kept_where_legal s cables l Power p j = l.power p
-kept_where_legal s cables l Branch p j = l.string p
-kept_where_legal s cables l Clash a b = l.clear a b
 
 -- a list that completes no cable from the first point on is a choice
 choice_of : (s : Site) (cables : List Cable) → IsChoice s 0 s.points cables → Completes s [] 0 cables

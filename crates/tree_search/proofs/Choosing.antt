@@ -1,6 +1,5 @@
 -- The bound of a node, and the act that is chosen on it.
-use Rattle.std.proofs.Common.{◌≡◌, ℕ, ◌-◌, ◌*◌, ◌^◌, ◌<◌, ◌≤◌, ℤ, pos, ◌≤ℤ◌, ◌<ℤ◌, List, length, Option, sym, ◌∙◌, subst, arith}
-use Rattle.std.specs.Prelude.{nat_abs}
+use Rattle.std.proofs.Common.{◌≡◌, ℕ, ◌^◌, ◌<◌, ℤ, pos, ◌≤ℤ◌, ◌<ℤ◌, List, length, Option, sym, ◌∙◌, subst, arith}
 use Rattle.std.specs.List.{enumerate_from}
 use Rattle.std.proofs.lemmas.Int.{ints, to_z-of_z}
 use Rattle.std.proofs.lemmas.List.{length-map}
@@ -17,7 +16,7 @@ use Rattle.cable_definitions.specs.declared.row.Act.TheVariants.{Split, Full}
 use Rattle.cable_definitions.specs.Site.{Site}
 use Rattle.cable_definitions.specs.Row.{Row}
 use Rattle.tree_search.specs.Chosen.{IsChosen}
-use Rattle.cable_definitions.specs.Tree.{Node, marks_of, mark_in, IsBound, IsFull}
+use Rattle.cable_definitions.specs.Tree.{Node, marks_of, mark_in, IsFull}
 
 -- each arc has a mark
 pub length-marks : (arcs : List Arc) (nodes : List Node) (v : ℕ) → length (marks_of arcs nodes v) ≡ length arcs
@@ -27,16 +26,12 @@ length-marks arcs nodes v = length-map (enumerate_from 0 arcs) (λ (x : ℕ × A
 pub passed : (z : ℤ) → pos 0 ≤ℤ z → z <ℤ pos (2 ^ 100) → to_z w128 (of_z w128 z) ≡ z
 passed z h k = to_z-of_z w128 z (omega (arith, ints, h, k))
 
--- the rounded bound is small where the parent's bound and the value are
-pub small-rounded : (parent value bound : ℤ) → pos 0 ≤ℤ parent → parent <ℤ pos (2 ^ 100) → pos 0 ≤ℤ value → value ≤ℤ pos (2 ^ 20 * (2 ^ 100 - 1)) → pos 0 ≤ℤ bound
-    → IsBound (nat_abs (to_z w128 (of_z w128 parent))) (to_z w128 (of_z w128 value)) (nat_abs bound) → to_z w128 (of_z w128 bound) <ℤ pos (2 ^ 100)
-small-rounded parent value bound h k l m o is =
-    let same_parent : to_z w128 (of_z w128 parent) ≡ parent = to_z-of_z w128 parent (omega (arith, ints, h, k)) in
-    let same_value : to_z w128 (of_z w128 value) ≡ value = to_z-of_z w128 value (omega (arith, ints, l, m)) in
-    let most : nat_abs bound ≤ 2 ^ 100 - 1 = is.least (2 ^ 100 - 1) (omega (arith, ints, same_parent, h, k)) (omega (arith, ints, same_value, m)) in
-    let small : bound <ℤ pos (2 ^ 100) = omega (arith, ints, most, o) in
-    let same : to_z w128 (of_z w128 bound) ≡ bound = to_z-of_z w128 bound (omega (arith, ints, o, small)) in
-    subst (λ (z : ℤ). z <ℤ pos (2 ^ 100)) (sym same) small
+-- a new bound that is small where its parent's is, is small as it is passed on
+pub small-passed : (parent bound : ℤ) → pos 0 ≤ℤ parent → parent <ℤ pos (2 ^ 100) → (to_z w128 (of_z w128 parent) <ℤ pos (2 ^ 100) → bound <ℤ pos (2 ^ 100)) → pos 0 ≤ℤ bound
+    → to_z w128 (of_z w128 bound) <ℤ pos (2 ^ 100)
+small-passed parent bound h k small o =
+    let less : bound <ℤ pos (2 ^ 100) = small (subst (λ (z : ℤ). z <ℤ pos (2 ^ 100)) (sym (passed parent h k)) k) in
+    subst (λ (z : ℤ). z <ℤ pos (2 ^ 100)) (sym (passed bound o less)) less
 
 -- an arc that is split is one of the arcs
 pub split-within : (s : Site) (arcs : List Arc) (rows : List Row) (marks : List Mark) (known : Option ℕ) (bound after n : ℕ) (act : Act) → IsChosen s arcs rows marks known bound act after → length marks ≡ n

@@ -10,33 +10,36 @@ use Rattle.cable_definitions.specs.declared.claim.Claim.{Claim}
 use Rattle.cable_definitions.specs.Site.{Site, IsValid}
 use Rattle.cable_definitions.specs.Arcs.{AreArcs}
 use Rattle.cable_definitions.specs.Budget.{enough_budget}
+use Rattle.cable_definitions.specs.Layout.{cost}
 use Rattle.cable_definitions.specs.Row.{Row}
-use Rattle.cable_definitions.specs.Tree.{Status, Unworked, WasSplit, Stopped, WasDead, WasFull, Node, Kept, root, nothing_kept, node_of, Leads, IsAccepted, is_open_leaf, Agrees}
+use Rattle.cable_definitions.specs.Tree.{Status, Unworked, WasSplit, Stopped, WasDead, WasFull, Node, Kept, root, nothing_kept, node_of, Leads, IsAccepted, is_open_leaf, IsLeastBound, Agrees}
 use Rattle.cable_definitions.specs.Built.{IsBuiltClaim}
 use Rattle.branch_tree.specs.State.{TreeState}
 use Rattle.proof_laws.specs.Decided.{HasPointRows}
 use Rattle.proof_laws.proofs.Lists.{all_from}
-use Rattle.tree_search.specs.Found.{IsFinal, FindsPlan, WritesPart}
+use Rattle.proof_laws.proofs.Rising.{unworked-root}
+use Rattle.proof_laws.proofs.Sound.{IsSound, sound-accepted}
+use Rattle.tree_search.specs.Found.{IsFinal, AreAbove, FindsPlan, WritesPart}
 use Rattle.tree_search.specs.Steps.{rows_kept, Advances}
 use Rattle.tree_search.specs.Chosen.{IsBeaten}
-use Rattle.tree_search.specs.Progress.{kept_of, one_if_unworked, unworked_count, AreOpen, IsSettled, AreBeaten, IsKnown, IsSearching, IsFresh, claim_of}
+use Rattle.tree_search.specs.Progress.{kept_of, one_if_unworked, unworked_count, AreOpen, IsSettled, AreBeaten, IsBest, IsKnown, IsSearching, IsFresh, claim_of}
 use Rattle.tree_search.specs.declared.progress.Progress.{Progress}
 use Rattle.tree_search.proofs.OpenNodes.{open-root}
 
 -- ---- the beginning
 -- what a fresh search with these rows keeps
-pub fresh-kept : (arcs n : ℕ) (p : Progress) (rows : List Row) → IsFresh arcs n p → kept_of (record p { pool = rows }) ≡ rows_kept rows
-fresh-kept arcs n p rows fresh = λ i. record { rows = rows; nodes = (fresh.tree i).nodes; works = (fresh.tree i).works }
+pub fresh-kept : (s : Site) (arcs : List Arc) (n : ℕ) (p : Progress) (rows : List Row) → IsFresh s arcs n p → kept_of (record p { pool = rows }) ≡ rows_kept rows
+fresh-kept s arcs n p rows fresh = λ i. record { rows = rows; nodes = (fresh.tree i).nodes; works = (fresh.tree i).works }
 
 -- nothing is stopped or full in the root alone
-root-beaten : AreBeaten None (root ∷ [])
-root-beaten zero node e settled = absurd (cc)
-root-beaten (suc zero) node e settled = (let same : root ≡ node = cc in elim (subst IsSettled (sym same) settled) [ inl f ↦ cc | inr f ↦ cc ])
-root-beaten (suc (suc k)) node e settled = absurd (cc)
+root-beaten : (known : Option ℕ) → AreBeaten known (root ∷ [])
+root-beaten known zero node e settled = absurd (cc)
+root-beaten known (suc zero) node e settled = absurd (let same : root ≡ node = cc in elim (subst IsSettled (sym same) settled) [ inl f ↦ cc | inr f ↦ cc ])
+root-beaten known (suc (suc k)) node e settled = absurd (cc)
 
 -- after the rows a search has begun
 pub start-searching : {A E : Type 0} {u : A} {a b : Option (List ℕ)} {i j : ℕ} (s : Site) (arcs : List Arc) (n : ℕ) (p : Progress) (rows : List Row) → IsValid s → AreArcs s arcs → enough_budget arcs ≤ n
-    → IsFresh (length arcs) n p → HasPointRows s arcs rows → Advances {A = A} {E = E} (Ok u) s arcs n (rows_kept []) (rows_kept rows) a b i j → IsSearching s arcs n (record p { pool = rows })
+    → IsFresh s arcs n p → HasPointRows s arcs rows → Advances {A = A} {E = E} (Ok u) s arcs n (rows_kept []) (rows_kept rows) a b i j → IsSearching s arcs n (record p { pool = rows })
 start-searching s arcs n p rows valid are_arcs enough fresh listed advances = record {
   valid = valid;
   are_arcs = are_arcs;
@@ -44,15 +47,15 @@ start-searching s arcs n p rows valid are_arcs enough fresh listed advances = re
   budget = ap (λ (t : TreeState). t.budget) fresh.tree;
   arcs_count = ap (λ (t : TreeState). t.arcs) fresh.tree;
   marks_count = fresh.marks_count;
-  no_weights = fresh.no_weights;
   room = fresh.room;
   few = (let one = ap length fresh.open_nodes in omega (arith, one));
   items = advances.items;
-  accepted = subst (IsAccepted s arcs n advances.items) (advances.reached ∙ sym (fresh-kept (length arcs) n p rows fresh)) advances.leads;
+  accepted = subst (IsAccepted s arcs n advances.items) (advances.reached ∙ sym (fresh-kept s arcs n p rows fresh)) advances.leads;
   rows = listed;
   are_open = λ v. all_open v;
   beaten = λ v node e settled. all_beaten v node e settled;
-  known = all_known;
+  known = fresh.known;
+  floored = λ nearest total. inl (ap (λ (t : TreeState). t.works) fresh.tree);
 }
   where
     nodes : p.tree.nodes ≡ root ∷ []
@@ -62,16 +65,13 @@ start-searching s arcs n p rows valid are_arcs enough fresh listed advances = re
     all_open = subst (λ (xs : List Node). AreOpen xs p.open_nodes.items) (sym nodes) (subst (AreOpen (root ∷ [])) (sym fresh.open_nodes) open-root)
 
     all_beaten : AreBeaten p.known p.tree.nodes
-    all_beaten = subst (λ (xs : List Node). AreBeaten p.known xs) (sym nodes) (subst (λ (o : Option ℕ). AreBeaten o (root ∷ [])) (sym fresh.known) root-beaten)
-
-    all_known : IsKnown s p.tree.nodes p.best p.known
-    all_known = subst (λ (o : Option ℕ). IsKnown s p.tree.nodes p.best o) (sym fresh.known) fresh.best
+    all_beaten = subst (λ (xs : List Node). AreBeaten p.known xs) (sym nodes) (root-beaten p.known)
 
 -- the first part leads to where the works begin
-pub fresh-advances : {A E : Type 0} {r : Result A E} {a b : Option (List ℕ)} {i j : ℕ} (s : Site) (arcs : List Arc) (n : ℕ) (p : Progress) (rows : List Row) → IsFresh (length arcs) n p
+pub fresh-advances : {A E : Type 0} {r : Result A E} {a b : Option (List ℕ)} {i j : ℕ} (s : Site) (arcs : List Arc) (n : ℕ) (p : Progress) (rows : List Row) → IsFresh s arcs n p
     → Advances r s arcs n (rows_kept []) (rows_kept rows) a b i j → Advances r s arcs n nothing_kept (kept_of (record p { pool = rows })) a b i j
 fresh-advances {r = r} {a} {b} {i} {j} s arcs n p rows fresh advances =
-    subst (λ (kept : Kept). Advances r s arcs n nothing_kept kept a b i j) (sym (fresh-kept (length arcs) n p rows fresh)) advances
+    subst (λ (kept : Kept). Advances r s arcs n nothing_kept kept a b i j) (sym (fresh-kept s arcs n p rows fresh)) advances
 
 -- ---- the end
 -- the nodes are all worked
@@ -91,10 +91,24 @@ leaf-beaten : (known : Option ℕ) (nodes : List Node) (i : ℕ) (node : Node) �
     → IsBeaten known node.bound
 leaf-beaten known nodes i node all beaten e o = beaten (suc i) node e (settled-leaf node.status (sym (ap unworked_count e) ∙ all (suc i)) o)
 
--- the place of a node that was made
-node-place : (nodes : List Node) (v : ℕ) (node : Node) → node_of nodes v ≡ Some node → (i : ℕ) × (slice_get nodes i ≡ Some node)
-node-place nodes zero node e = absurd (cc)
-node-place nodes (suc i) node e = (i, e)
+-- The best layout lies in the box of an open leaf, so its cost, which no such leaf's bound is below, is the least bound.
+best-least : (s : Site) (arcs : List Arc) (kept : Kept) (cables : List Cable) (best : ℕ) → IsSound s arcs kept → AreWorked kept.nodes → AreBeaten (Some best) kept.nodes → IsBest s cables best
+    → IsLeastBound kept best
+best-least s arcs kept cables best sound all beaten k =
+    let leaf = sound.nodes.cover cables k.legal in
+    let low : best ≤ leaf.node.bound = leaf-beaten (Some best) kept.nodes leaf.place leaf.node all beaten leaf.made leaf.open_leaf in
+    let high : leaf.node.bound ≤ cost s cables = sound.nodes.bounds leaf.place leaf.node leaf.made cables k.legal leaf.in_box in
+    let same = k.cost_is in
+    record {
+      reached = (
+        leaf.place,
+        leaf.node,
+        slice_get_within kept.nodes leaf.place leaf.node leaf.made,
+        get_or_from_slice_get kept.nodes leaf.place leaf.node leaf.node leaf.made,
+        (leaf.open_leaf, omega (arith, low, high, same)),
+      );
+      least = all_from (λ (v : Node). IsTrue (is_open_leaf v.status) → best ≤ v.bound) kept.nodes (λ i node f o. leaf-beaten (Some best) kept.nodes i node all beaten f o);
+    }
 
 -- What the claim says is so.
 record IsEnd (s : Site) (n : ℕ) (kept : Kept) (cables : List Cable) (known : Option ℕ) : Type 0 where
@@ -104,39 +118,27 @@ record IsEnd (s : Site) (n : ℕ) (kept : Kept) (cables : List Cable) (known : O
   final : IsFinal (claim_of known)
 
 -- so it is where all nodes are worked
-is_end : (s : Site) (n : ℕ) (kept : Kept) (cables : List Cable) (known : Option ℕ) → AreWorked kept.nodes → AreBeaten known kept.nodes → IsKnown s kept.nodes cables known → IsEnd s n kept cables known
-is_end s n kept cables None all beaten e = record {
+is_end : (s : Site) (arcs : List Arc) (n : ℕ) (kept : Kept) (cables : List Cable) (known : Option ℕ) → IsSound s arcs kept → AreWorked kept.nodes → AreBeaten known kept.nodes → IsKnown s cables known
+    → IsEnd s n kept cables known
+is_end s arcs n kept cables None sound all beaten e = record {
   built = tt;
   in_order = λ i j d l m. absurd (let none = ap length e in omega (arith, none, m));
   agrees = (e, all_from (λ (v : Node). ¬ IsTrue (is_open_leaf v.status)) kept.nodes (λ i node f o. leaf-beaten None kept.nodes i node all beaten f o));
   final = tt;
 }
-is_end s n kept cables (Some best) all beaten k =
-    let place = node-place kept.nodes k.number k.node k.made in
-    record {
-      built = tt;
-      in_order = k.in_order;
-      agrees = (
-        (k.legal, k.cost_is),
-        record {
-          reached = (
-            place.0,
-            k.node,
-            slice_get_within kept.nodes place.0 k.node place.1,
-            get_or_from_slice_get kept.nodes place.0 k.node k.node place.1,
-            (ap is_open_leaf k.full, k.bound),
-          );
-          least = all_from (λ (v : Node). IsTrue (is_open_leaf v.status) → best ≤ v.bound) kept.nodes (λ i node f o. leaf-beaten (Some best) kept.nodes i node all beaten f o);
-        },
-      );
-      final = tt;
-    }
+is_end s arcs n kept cables (Some best) sound all beaten k = record {
+  built = tt;
+  in_order = k.in_order;
+  agrees = ((k.legal, k.cost_is), best-least s arcs kept cables best sound all beaten k);
+  final = tt;
+}
 
 -- the plan that a search finds
 pub found : {A E : Type 0} {u : A} {a b : Option (List ℕ)} {i j : ℕ} (s : Site) (arcs : List Arc) (n : ℕ) (p : Progress) → Advances {A = A} {E = E} (Ok u) s arcs n nothing_kept (kept_of p) a b i j
     → IsSearching s arcs n p → p.open_nodes.items ≡ [] → FindsPlan s arcs n a b p.best (claim_of p.known)
 found s arcs n p advances searching none =
-    let end = is_end s n (kept_of p) p.best p.known (λ v. sym (searching.are_open v) ∙ ap (λ (xs : List ℕ). count_by (λ w. w == v) xs) none) searching.beaten searching.known in
+    let sound = sound-accepted s arcs n searching.items (kept_of p) searching.valid searching.are_arcs searching.accepted in
+    let end = is_end s arcs n (kept_of p) p.best p.known sound (λ v. sym (searching.are_open v) ∙ ap (λ (xs : List ℕ). count_by (λ w. w == v) xs) none) searching.beaten searching.known in
     record {
       items = advances.items;
       kept = kept_of p;
@@ -145,8 +147,21 @@ found s arcs n p advances searching none =
       in_order = end.in_order;
       agrees = end.agrees;
       final = end.final;
+      floor = λ nearest total. above (searching.floored nearest total);
       written = advances.writes.ok;
     }
+  where
+    -- some work is done, since node 1 isn't open
+    worked_root : p.tree.works ≡ 0 → ⊥
+    worked_root no_work =
+        let alone : p.tree.nodes ≡ root ∷ [] = unworked-root s arcs n searching.items nothing_kept (kept_of p) searching.accepted (λ e. refl) no_work in
+        let count : count_by (λ w. w == 1) p.open_nodes.items ≡ unworked_count (node_of (root ∷ []) 1) = searching.are_open 1 ∙ ap (λ (nodes : List Node). unworked_count (node_of nodes 1)) alone in
+        let left : count_by (λ w. w == 1) p.open_nodes.items ≡ 0 = ap (λ (xs : List ℕ). count_by (λ w. w == 1) xs) none in
+        omega (arith, count, left)
+
+    above : {m : ℕ} → (p.tree.works ≡ 0) ⊎ AreAbove m p.tree.nodes → AreAbove m p.tree.nodes
+    above (inl no_work) = absurd (worked_root no_work)
+    above (inr h) = h
 
 -- what a search has written where it stops early
 pub stopped_early : {A E : Type 0} {e : E} {a b : Option (List ℕ)} {i j : ℕ} (s : Site) (arcs : List Arc) (n : ℕ) (new : Kept) → Advances {A = A} {E = E} (Err e) s arcs n nothing_kept new a b i j → WritesPart s arcs n a b
@@ -170,7 +185,3 @@ pub found_as : (s : Site) (arcs : List Arc) (n : ℕ) (a b : Option (List ℕ)) 
     → FindsPlan s arcs n a b cables (claim_of known) → FindsPlan s arcs n a b layout claim
 found_as s arcs n a b cables layout known claim e f plan =
     subst (λ (c : Claim). FindsPlan s arcs n a b layout c) (sym f) (subst (λ (xs : List Cable). FindsPlan s arcs n a b xs (claim_of known)) (sym e) plan)
-
--- a fresh search for so many arcs
-pub fresh_for : (count arcs n : ℕ) (p : Progress) → count ≡ arcs → IsFresh count n p → IsFresh arcs n p
-fresh_for count arcs n p e fresh = subst (λ (k : ℕ). IsFresh k n p) e fresh

@@ -2,7 +2,9 @@ pub mod Advancing
 pub mod FirstRows
 pub mod OpenNodes
 pub mod InOrder
+pub mod Starting
 pub mod Working
 pub mod Choosing
+pub mod Floor
 pub mod Stepping
 pub mod Ending

@@ -63,12 +63,12 @@ last_unworked nodes rest v open_nodes =
     is_unworked (node_of nodes v) (elim (one_at v v) [ inl t ↦ (let c = t.1 in omega (arith, a, b, c)) | inr t ↦ absurd (t.0 refl) ])
 
 -- a node of a list in which one other place was set
-pub other_node : (nodes : List Node) (i : ℕ) (y : Node) (v : ℕ) → v ≢ suc i → node_of (slice_set nodes (suc i - 1) y) v ≡ node_of nodes v
+other_node : (nodes : List Node) (i : ℕ) (y : Node) (v : ℕ) → v ≢ suc i → node_of (slice_set nodes (suc i - 1) y) v ≡ node_of nodes v
 other_node nodes i y zero n = refl
 other_node nodes i y (suc j) n = set_other nodes (suc i - 1) j y (λ e. n (omega (arith, e)))
 
 -- the node that was set
-pub same_node : (nodes : List Node) (i : ℕ) (x y : Node) → slice_get nodes i ≡ Some x → node_of (slice_set nodes (suc i - 1) y) (suc i) ≡ Some y
+same_node : (nodes : List Node) (i : ℕ) (x y : Node) → slice_get nodes i ≡ Some x → node_of (slice_set nodes (suc i - 1) y) (suc i) ≡ Some y
 same_node nodes i x y e =
     let q : suc i - 1 ≡ i = omega arith in
     subst (λ (k : ℕ). slice_get (slice_set nodes k y) i ≡ Some y) (sym q) (set_here nodes i x y e)

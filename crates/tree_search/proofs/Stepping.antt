@@ -4,9 +4,11 @@ use Rattle.std.specs.Prelude.{nat_abs}
 use Rattle.std.specs.Int.{w128}
 use mir.Val.{to_z, of_z}
 use Rattle.cable_definitions.specs.declared.cable.Arc.{Arc}
+use Rattle.cable_definitions.specs.declared.row.Mark.{Mark}
 use Rattle.cable_definitions.specs.declared.row.Act.{Act}
 use Rattle.cable_definitions.specs.declared.row.Act.TheVariants.{Split, Stop, Dead, Full}
 use Rattle.cable_definitions.specs.Site.{Site}
+use Rattle.cable_definitions.specs.Choice.{AreLawful}
 use Rattle.cable_definitions.specs.Tree.{Unworked, Node, WorkItem, node_of, marks_of, IsWorked}
 use Rattle.cable_definitions.specs.Text.{item_lines}
 use Rattle.cable_text.specs.Stream.{Writes}
@@ -15,20 +17,22 @@ use Rattle.proof_laws.proofs.WorkCounts.{works-below}
 use Rattle.branch_tree.specs.declared.tree.TreeFault.{TreeFault}
 use Rattle.branch_tree.specs.declared.tree.TreeFault.TheVariants.{Budget, Unmade, Worked}
 use Rattle.branch_tree.specs.State.{TreeState, tree_after}
+use Rattle.turbine_weights.specs.Turbines.{AreTurbineWeights}
 use Rattle.tree_search.specs.Steps.{Advances}
 use Rattle.tree_search.specs.Chosen.{IsChosen, IsBoundOf}
-use Rattle.tree_search.specs.Progress.{kept_of, AreOpen, AreBeaten, IsKnown, Settles, IsSearching}
+use Rattle.tree_search.specs.Progress.{kept_of, AreOpen, AreBeaten, Settles, IsSearching}
 use Rattle.tree_search.specs.declared.progress.Progress.{Progress}
 use Rattle.tree_search.proofs.Advancing.{leads-then}
 use Rattle.tree_search.proofs.OpenNodes.{last_unworked, open_after, open-after}
 use Rattle.tree_search.proofs.Working.{is_worked, advances-work, beaten-after, known-after}
 use Rattle.tree_search.proofs.Choosing.{passed}
+use Rattle.tree_search.proofs.Floor.{floored-after}
 
 -- Node v was taken from the open nodes, and an act was done on it.
 pub record IsStep (s : Site) (arcs : List Arc) (p q : Progress) (v : ℕ) (act : Act) (bound after : ℕ) : Type 0 where
   pub rest : List ℕ
   pub popped : p.open_nodes.items ≡ rest ++ v ∷ []
-  pub bound_is : IsBoundOf s arcs p.pool p.tree.nodes v p.work.weights bound
+  pub bound_is : IsBoundOf s arcs p.pool p.tree.nodes v q.work.weights bound
   pub marks : q.decisions ≡ marks_of arcs p.tree.nodes v
   pub marks_count : length q.decisions ≡ length arcs
   pub chosen : IsChosen s arcs p.pool q.decisions p.known bound act after
@@ -40,7 +44,9 @@ pub record IsStep (s : Site) (arcs : List Arc) (p q : Progress) (v : ℕ) (act :
   pub open_nodes : q.open_nodes.items ≡ open_after rest act (length p.tree.nodes)
   pub room : vec_capacity q.open_nodes ≡ vec_capacity p.open_nodes
   pub settles : Settles s arcs q.decisions act after p.known p.best q.known q.best
-  pub weights : q.work.weights ≡ p.work.weights
+  pub lawful : AreLawful p.pool q.work.weights
+  pub few : length q.work.weights ≤ 1024
+  pub weights : AreTurbineWeights s arcs p.pool q.decisions q.work.weights
 
 -- the node that was taken isn't worked
 pub taken : (s : Site) (arcs : List Arc) (n : ℕ) (p : Progress) (rest : List ℕ) (v : ℕ) → IsSearching s arcs n p → p.open_nodes.items ≡ rest ++ v ∷ []
@@ -95,13 +101,12 @@ after-tree p q t e f = λ i. record { rows = f i; nodes = (e i).nodes; works = (
 
 -- the work is accepted
 pub step-worked : (s : Site) (arcs : List Arc) (n : ℕ) (p q : Progress) (v : ℕ) (act : Act) (bound after : ℕ) → IsSearching s arcs n p → IsStep s arcs p q v act bound after
-    → IsWorked s arcs n (kept_of p) v [] act (kept_of q)
+    → IsWorked s arcs n (kept_of p) v q.work.weights act (kept_of q)
 step-worked s arcs n p q v act bound after searching step =
     let l = within_budget s arcs n p v step.node searching step.made step.unworked in
-    let is = subst (λ w. IsBoundOf s arcs p.pool p.tree.nodes v w bound) searching.no_weights step.bound_is in
     let chosen = subst (λ marks. IsChosen s arcs p.pool marks p.known bound act after) step.marks step.chosen in
-    subst (IsWorked s arcs n (kept_of p) v [] act) (sym (after-tree p q (tree_after p.tree v step.node act after) step.tree step.pool))
-    (is_worked s arcs n (kept_of p) v step.node p.known act bound after step.made step.unworked l is chosen)
+    subst (IsWorked s arcs n (kept_of p) v q.work.weights act) (sym (after-tree p q (tree_after p.tree v step.node act after) step.tree step.pool))
+    (is_worked s arcs n (kept_of p) v step.node p.known q.work.weights act bound after step.made step.unworked l step.lawful step.few step.bound_is chosen)
 
 -- how many nodes are open after an act
 open-count : (rest : List ℕ) (act : Act) (count : ℕ) → length (open_after rest act count) ≤ length rest + 2
@@ -127,17 +132,18 @@ step-searching s arcs n p q v act bound after searching step =
       budget = ap (λ (t : TreeState). t.budget) step.tree ∙ searching.budget;
       arcs_count = ap (λ (t : TreeState). t.arcs) step.tree ∙ searching.arcs_count;
       marks_count = step.marks_count;
-      no_weights = step.weights ∙ searching.no_weights;
       room = (let same = step.room in let room = searching.room in omega (arith, same, room));
       few = omega (arith, count, sum, most, few, now, works);
-      items = searching.items ++ WorkItem v [] act ∷ [];
-      accepted = leads-then s arcs n _ (kept_of p) (kept_of q) searching.items (WorkItem v [] act ∷ []) searching.accepted (kept_of q, step-worked s arcs n p q v act bound after searching step, refl);
+      items = searching.items ++ WorkItem v q.work.weights act ∷ [];
+      accepted = leads-then s arcs n _ (kept_of p) (kept_of q) searching.items (WorkItem v q.work.weights act ∷ []) searching.accepted (kept_of q, step-worked s arcs n p q v act bound after searching step, refl);
       rows = subst (HasPointRows s arcs) (sym step.pool) searching.rows;
       are_open = λ u. rw_open u;
       beaten = subst (λ (t : TreeState). AreBeaten q.known t.nodes) (sym step.tree)
           (beaten-after s arcs p.pool q.decisions p.tree.nodes v step.node act bound after p.known q.known p.best q.best step.made searching.beaten step.chosen step.settles);
-      known = subst (λ (t : TreeState). IsKnown s t.nodes q.best q.known) (sym step.tree)
-          (known-after s arcs p.pool q.decisions p.tree.nodes v step.node act bound after p.known q.known p.best q.best searching.are_arcs step.made step.unworked searching.known step.chosen step.settles);
+      known = known-after s arcs p.pool q.decisions act bound after p.known q.known p.best q.best searching.are_arcs searching.known step.chosen step.settles;
+      floored = floored-after s arcs n searching.items (kept_of p) (kept_of q) v q.work.weights act searching.valid searching.are_arcs searching.accepted
+          (step-worked s arcs n p q v act bound after searching step)
+          searching.rows (subst (λ (marks : List Mark). AreTurbineWeights s arcs p.pool marks q.work.weights) step.marks step.weights) searching.floored;
     }
   where
     searching_open : p.open_nodes.items ≡ step.rest ++ v ∷ []
@@ -159,14 +165,15 @@ open_by rest new Full count split other = other (λ a e. cc)
 -- what the calls of a step did
 pub is_step : (s : Site) (arcs : List Arc) (p q : Progress) (v : ℕ) (act : Act) (bound after : ℤ) (rest : List ℕ) (count : ℕ) → p.open_nodes.items ≡ rest ++ v ∷ []
     → pos 0 ≤ℤ bound → bound <ℤ pos (2 ^ 100) → pos 0 ≤ℤ after → after <ℤ pos (2 ^ 100)
-    → IsBoundOf s arcs p.pool p.tree.nodes v p.work.weights (nat_abs bound) → q.decisions ≡ marks_of arcs p.tree.nodes v → length q.decisions ≡ length arcs
+    → IsBoundOf s arcs p.pool p.tree.nodes v q.work.weights (nat_abs bound) → q.decisions ≡ marks_of arcs p.tree.nodes v → length q.decisions ≡ length arcs
     → IsChosen s arcs p.pool q.decisions p.known (nat_abs (to_z w128 (of_z w128 bound))) act (nat_abs after)
     → (made : Node) × (node_of p.tree.nodes v ≡ Some made) × (made.status ≡ Unworked) × (q.tree ≡ tree_after p.tree v made act (nat_abs (to_z w128 (of_z w128 after))))
     → q.pool ≡ p.pool → count ≡ length p.tree.nodes → ((a : ℕ) → act ≡ Split a → q.open_nodes.items ≡ rest ++ (count + 2) ∷ (count + 1) ∷ [])
     → (((a : ℕ) → ¬ (act ≡ Split a)) → q.open_nodes.items ≡ rest) → vec_capacity q.open_nodes ≡ vec_capacity p.open_nodes
-    → Settles s arcs q.decisions act (nat_abs (to_z w128 (of_z w128 after))) p.known p.best q.known q.best → q.work.weights ≡ p.work.weights
+    → Settles s arcs q.decisions act (nat_abs (to_z w128 (of_z w128 after))) p.known p.best q.known q.best
+    → AreLawful p.pool q.work.weights → length q.work.weights ≤ 1024 → AreTurbineWeights s arcs p.pool q.decisions q.work.weights
     → IsStep s arcs p q v act (nat_abs bound) (nat_abs after)
-is_step s arcs p q v act bound after rest count popped b0 b1 a0 a1 is marks marks_count chosen tree pool counted split other room settles weights =
+is_step s arcs p q v act bound after rest count popped b0 b1 a0 a1 is marks marks_count chosen tree pool counted split other room settles lawful few_weights turbines =
     let same_bound : nat_abs (to_z w128 (of_z w128 bound)) ≡ nat_abs bound = ap nat_abs (passed bound b0 b1) in
     let same_after : nat_abs (to_z w128 (of_z w128 after)) ≡ nat_abs after = ap nat_abs (passed after a0 a1) in
     record {
@@ -184,15 +191,16 @@ is_step s arcs p q v act bound after rest count popped b0 b1 a0 a1 is marks mark
       open_nodes = open_by rest q.open_nodes.items act count split other ∙ ap (open_after rest act) counted;
       room = room;
       settles = subst (λ (b : ℕ). Settles s arcs q.decisions act b p.known p.best q.known q.best) same_after settles;
-      weights = weights;
+      lawful = lawful;
+      few = few_weights;
+      weights = turbines;
     }
 
 -- a step writes its work
 pub advances-step : {A E : Type 0} {r : Result A E} {a b : Option (List ℕ)} {i j : ℕ} (s : Site) (arcs : List Arc) (n : ℕ) (p q : Progress) (v : ℕ) (act : Act) (bound after : ℕ) → IsSearching s arcs n p
-    → IsStep s arcs p q v act bound after → Writes r a b i j (item_lines (WorkItem v p.work.weights act)) → Advances r s arcs n (kept_of p) (kept_of q) a b i j
+    → IsStep s arcs p q v act bound after → Writes r a b i j (item_lines (WorkItem v q.work.weights act)) → Advances r s arcs n (kept_of p) (kept_of q) a b i j
 advances-step {r = r} {a} {b} {i} {j} s arcs n p q v act bound after searching step writes =
-    advances-work s arcs n (kept_of p) (kept_of q) v act (step-worked s arcs n p q v act bound after searching step)
-    (subst (λ (w : List (ℕ × ℤ)). Writes r a b i j (item_lines (WorkItem v w act))) searching.no_weights writes)
+    advances-work s arcs n (kept_of p) (kept_of q) v q.work.weights act (step-worked s arcs n p q v act bound after searching step) writes
 
 -- and a work is one more
 pub counts : (s : Site) (arcs : List Arc) (n : ℕ) (p : Progress) (tree : TreeState) (v : ℕ) (node : Node) (act : Act) (after : ℕ) → IsSearching s arcs n p → node_of p.tree.nodes v ≡ Some node

@@ -1,5 +1,5 @@
 -- One work of a search, and what is so after it.
-use Rattle.std.proofs.Common.{◌≡◌, ◌≢◌, ℕ, zero, suc, ◌+◌, ◌-◌, ◌<◌, ◌≤◌, ◌⊎◌, inl, inr, ℤ, List, [], ◌∷◌, ◌++◌, slice_get, Some, None, Option, Result, Ok, Err, refl, sym, ◌∙◌, ap, subst, arith}
+use Rattle.std.proofs.Common.{◌≡◌, ℕ, zero, suc, ◌+◌, ◌-◌, ◌<◌, ◌≤◌, ◌⊎◌, inl, inr, ℤ, List, [], ◌∷◌, ◌++◌, length, slice_get, Some, None, Option, Result, Ok, Err, refl, sym, ◌∙◌, ap, subst, arith}
 use Rattle.std.specs.Prelude.{slice_set, All, OnOk}
 use Rattle.std.proofs.lemmas.List.{append-nil}
 use Rattle.cable_definitions.specs.declared.cable.Cable.{Cable}
@@ -17,43 +17,13 @@ use Rattle.cable_definitions.specs.Tree.{Unworked, WasSplit, Stopped, WasDead, W
 use Rattle.cable_definitions.specs.Text.{item_lines}
 use Rattle.cable_definitions.specs.Built.{IsBuiltItem}
 use Rattle.cable_text.specs.Stream.{Writes}
-use Rattle.branch_tree.specs.State.{nodes_after, status_of}
-use Rattle.proof_laws.proofs.Boxes.{set_either, append_left, append_either}
+use Rattle.branch_tree.specs.State.{nodes_after}
+use Rattle.proof_laws.proofs.Boxes.{set_either, append_either}
 use Rattle.proof_laws.proofs.FullNodes.{full-one}
 use Rattle.tree_search.specs.Steps.{Advances}
 use Rattle.tree_search.specs.Chosen.{IsBeaten, IsChosen, IsBoundOf}
 use Rattle.tree_search.specs.Progress.{IsSettled, AreBeaten, IsKnown, Settles}
 use Rattle.tree_search.proofs.InOrder.{full-in_order}
-use Rattle.tree_search.proofs.OpenNodes.{same_node, other_node}
-
--- ---- the nodes after an act
--- the node that was worked
-pub here-after : (nodes : List Node) (v : ℕ) (node : Node) (act : Act) (bound : ℕ) → node_of nodes v ≡ Some node → node_of (nodes_after nodes v node act bound) v ≡ Some (worked node bound (status_of act))
-here-after nodes zero node act bound e = absurd (cc)
-here-after nodes (suc i) node (Split a) bound e =
-    append_left (slice_set nodes (suc i - 1) (worked node bound WasSplit)) (child (suc i) bound a Used ∷ child (suc i) bound a Unused ∷ []) i (worked node bound WasSplit)
-    (same_node nodes i node (worked node bound WasSplit) e)
-here-after nodes (suc i) node Stop bound e = same_node nodes i node (worked node bound Stopped) e
-here-after nodes (suc i) node (Dead why) bound e = same_node nodes i node (worked node bound WasDead) e
-here-after nodes (suc i) node Full bound e = same_node nodes i node (worked node bound WasFull) e
-
--- another node that was made, in a list that was set at one place
-still-set : (nodes : List Node) (v u : ℕ) (x y z : Node) → node_of nodes v ≡ Some z → u ≢ v → node_of nodes u ≡ Some x → node_of (slice_set nodes (v - 1) y) u ≡ Some x
-still-set nodes zero u x y z g n e = absurd (cc)
-still-set nodes (suc i) u x y z g n e = other_node nodes i y u n ∙ e
-
--- a node that was made, in front of others
-still-front : (nodes more : List Node) (u : ℕ) (x : Node) → node_of nodes u ≡ Some x → node_of (nodes ++ more) u ≡ Some x
-still-front nodes more zero x e = absurd (cc)
-still-front nodes more (suc j) x e = append_left nodes more j x e
-
--- the others stay
-pub still-after : (nodes : List Node) (v u : ℕ) (node x : Node) (act : Act) (bound : ℕ) → node_of nodes v ≡ Some node → u ≢ v → node_of nodes u ≡ Some x → node_of (nodes_after nodes v node act bound) u ≡ Some x
-still-after nodes v u node x (Split a) bound g n e =
-    still-front (slice_set nodes (v - 1) (worked node bound WasSplit)) (child v bound a Used ∷ child v bound a Unused ∷ []) u x (still-set nodes v u x (worked node bound WasSplit) node g n e)
-still-after nodes v u node x Stop bound g n e = still-set nodes v u x (worked node bound Stopped) node g n e
-still-after nodes v u node x (Dead why) bound g n e = still-set nodes v u x (worked node bound WasDead) node g n e
-still-after nodes v u node x Full bound g n e = still-set nodes v u x (worked node bound WasFull) node g n e
 
 -- ---- stopped and full nodes
 -- what is beaten by the old cost is beaten by the new
@@ -128,69 +98,26 @@ beaten-after s arcs rows marks nodes v node Full bound after known new_known bes
     (beaten-set nodes v node (worked node after WasFull) known (Some after) e beaten (beaten-less known after takes.0) (λ h. omega arith))
 
 -- ---- the best layout
--- the best layout stays known
-known-still : (s : Site) (nodes : List Node) (v : ℕ) (node : Node) (act : Act) (bound : ℕ) (cables : List Cable) (known : Option ℕ) → node_of nodes v ≡ Some node → node.status ≡ Unworked
-    → IsKnown s nodes cables known → IsKnown s (nodes_after nodes v node act bound) cables known
-known-still s nodes v node act bound cables None e u k = k
-known-still s nodes v node act bound cables (Some best) e u k =
-    let other : k.number ≢ v =
-    λ q.
-    let f : Some k.node ≡ Some node = sym k.made ∙ ap (node_of nodes) q ∙ e in
-    let same : k.node ≡ node = cc in
-    let g : WasFull ≡ Unworked = sym k.full ∙ ap (λ (x : Node). x.status) same ∙ u in
-    cc
-    in
-    record {
-      legal = k.legal;
-      cost_is = k.cost_is;
-      in_order = k.in_order;
-      node = k.node;
-      number = k.number;
-      made = still-after nodes v k.number node k.node act bound e other k.made;
-      full = k.full;
-      bound = k.bound;
-    }
-
 -- the same under equal names
-known-same : (s : Site) (nodes : List Node) (old new : Option ℕ) (cables new_cables : List Cable) → new ≡ old → new_cables ≡ cables → IsKnown s nodes cables old → IsKnown s nodes new_cables new
-known-same s nodes old new cables new_cables e f k = subst (λ (o : Option ℕ). IsKnown s nodes new_cables o) (sym e) (subst (λ (xs : List Cable). IsKnown s nodes xs old) (sym f) k)
+known-same : (s : Site) (old new : Option ℕ) (cables new_cables : List Cable) → new ≡ old → new_cables ≡ cables → IsKnown s cables old → IsKnown s new_cables new
+known-same s old new cables new_cables e f k = subst (λ (o : Option ℕ). IsKnown s new_cables o) (sym e) (subst (λ (xs : List Cable). IsKnown s xs old) (sym f) k)
 
--- an act leaves the best layout of the full nodes known
-pub known-after : (s : Site) (arcs : List Arc) (rows : List Row) (marks : List Mark) (nodes : List Node) (v : ℕ) (node : Node) (act : Act) (bound after : ℕ) (known new_known : Option ℕ) (best new_best : List Cable)
-    → AreArcs s arcs → node_of nodes v ≡ Some node → node.status ≡ Unworked → IsKnown s nodes best known → IsChosen s arcs rows marks known bound act after
-    → Settles s arcs marks act after known best new_known new_best → IsKnown s (nodes_after nodes v node act after) new_best new_known
-known-after s arcs rows marks nodes v node (Split a) bound after known new_known best new_best are e u k chosen settles =
-    known-same s (nodes_after nodes v node (Split a) after) known new_known best new_best settles.0 settles.1 (known-still s nodes v node (Split a) after best known e u k)
-known-after s arcs rows marks nodes v node Stop bound after known new_known best new_best are e u k chosen settles =
-    known-same s (nodes_after nodes v node Stop after) known new_known best new_best settles.0 settles.1 (known-still s nodes v node Stop after best known e u k)
-known-after s arcs rows marks nodes v node (Dead why) bound after known new_known best new_best are e u k chosen settles =
-    known-same s (nodes_after nodes v node (Dead why) after) known new_known best new_best settles.0 settles.1 (known-still s nodes v node (Dead why) after best known e u k)
-known-after s arcs rows marks nodes v node Full bound after known new_known best new_best are e u k chosen (inl keeps) =
-    known-same s (nodes_after nodes v node Full after) known new_known best new_best keeps.1 keeps.2 (known-still s nodes v node Full after best known e u k)
-known-after s arcs rows marks nodes v node Full bound after known new_known best new_best are e u k chosen (inr takes) =
-    subst (λ (o : Option ℕ). IsKnown s (nodes_after nodes v node Full after) new_best o) (sym takes.1)
+-- an act leaves the best layout known
+pub known-after : (s : Site) (arcs : List Arc) (rows : List Row) (marks : List Mark) (act : Act) (bound after : ℕ) (known new_known : Option ℕ) (best new_best : List Cable)
+    → AreArcs s arcs → IsKnown s best known → IsChosen s arcs rows marks known bound act after → Settles s arcs marks act after known best new_known new_best → IsKnown s new_best new_known
+known-after s arcs rows marks (Split a) bound after known new_known best new_best are k chosen settles = known-same s known new_known best new_best settles.0 settles.1 k
+known-after s arcs rows marks Stop bound after known new_known best new_best are k chosen settles = known-same s known new_known best new_best settles.0 settles.1 k
+known-after s arcs rows marks (Dead why) bound after known new_known best new_best are k chosen settles = known-same s known new_known best new_best settles.0 settles.1 k
+known-after s arcs rows marks Full bound after known new_known best new_best are k chosen (inl keeps) = known-same s known new_known best new_best keeps.1 keeps.2 k
+known-after s arcs rows marks Full bound after known new_known best new_best are k chosen (inr takes) =
+    subst (λ (o : Option ℕ). IsKnown s new_best o) (sym takes.1)
     (record {
       legal = takes.2.legal;
       cost_is = ap (cost s) (full-one s arcs marks new_best chosen.0 takes.2 chosen.1) ∙ sym chosen.2;
       in_order = full-in_order s arcs marks new_best are takes.2;
-      node = worked node after WasFull;
-      number = v;
-      made = here-after nodes v node Full after e;
-      full = refl;
-      bound = refl;
     })
 
 -- ---- the work
--- no weights are lawful
-lawful : (rows : List Row) → AreLawful rows []
-lawful rows = record {
-  ascending = λ i j d l m. absurd (omega arith);
-  listed = λ k d l. absurd (omega arith);
-  not_zero = λ k d l. absurd (omega arith);
-  small = λ k d l. absurd (omega arith);
-  signs = λ k d l. absurd (omega arith);
-}
-
 -- the act that was chosen may be done
 acted : (s : Site) (arcs : List Arc) (kept : Kept) (v : ℕ) (node : Node) (known : Option ℕ) (act : Act) (bound after : ℕ) (value : ℤ) → IsBound node.bound value bound
     → IsChosen s arcs kept.rows (marks_of arcs kept.nodes v) known bound act after → IsActed s arcs kept v node value act (nodes_after kept.nodes v node act after)
@@ -213,15 +140,15 @@ abbrev pub kept_after : Kept → ℕ → Node → Act → ℕ → Kept
 kept_after kept v node act after = record { rows = kept.rows; nodes = nodes_after kept.nodes v node act after; works = kept.works + 1 }
 
 -- the work is accepted
-pub is_worked : (s : Site) (arcs : List Arc) (n : ℕ) (kept : Kept) (v : ℕ) (node : Node) (known : Option ℕ) (act : Act) (bound after : ℕ) → node_of kept.nodes v ≡ Some node
-    → node.status ≡ Unworked → kept.works < n → IsBoundOf s arcs kept.rows kept.nodes v [] bound → IsChosen s arcs kept.rows (marks_of arcs kept.nodes v) known bound act after
-    → IsWorked s arcs n kept v [] act (kept_after kept v node act after)
-is_worked s arcs n kept v node known act bound after e u l is chosen = record {
+pub is_worked : (s : Site) (arcs : List Arc) (n : ℕ) (kept : Kept) (v : ℕ) (node : Node) (known : Option ℕ) (weights : List (ℕ × ℤ)) (act : Act) (bound after : ℕ) → node_of kept.nodes v ≡ Some node
+    → node.status ≡ Unworked → kept.works < n → AreLawful kept.rows weights → length weights ≤ 1024 → IsBoundOf s arcs kept.rows kept.nodes v weights bound
+    → IsChosen s arcs kept.rows (marks_of arcs kept.nodes v) known bound act after → IsWorked s arcs n kept v weights act (kept_after kept v node act after)
+is_worked s arcs n kept v node known weights act bound after e u l lawful few is chosen = record {
   node = node;
   made = e;
   unworked = u;
-  weights_count = omega arith;
-  lawful = lawful kept.rows;
+  weights_count = few;
+  lawful = lawful;
   within_budget = l;
   value = is.value;
   is_value = is.is_value;
@@ -231,19 +158,19 @@ is_worked s arcs n kept v node known act bound after e u l is chosen = record {
 }
 
 -- a work that is accepted is an item
-pub advances-work : {A E : Type 0} {r : Result A E} {a b : Option (List ℕ)} {i j : ℕ} (s : Site) (arcs : List Arc) (n : ℕ) (old new : Kept) (v : ℕ) (act : Act) → IsWorked s arcs n old v [] act new
-    → Writes r a b i j (item_lines (WorkItem v [] act)) → Advances r s arcs n old new a b i j
-advances-work {A} {E} {r} {a} {b} {i} {j} s arcs n old new v act w writes = record {
-  items = WorkItem v [] act ∷ [];
+pub advances-work : {A E : Type 0} {r : Result A E} {a b : Option (List ℕ)} {i j : ℕ} (s : Site) (arcs : List Arc) (n : ℕ) (old new : Kept) (v : ℕ) (weights : List (ℕ × ℤ)) (act : Act) → IsWorked s arcs n old v weights act new
+    → Writes r a b i j (item_lines (WorkItem v weights act)) → Advances r s arcs n old new a b i j
+advances-work {A} {E} {r} {a} {b} {i} {j} s arcs n old new v weights act w writes = record {
+  items = WorkItem v weights act ∷ [];
   kept = new;
   leads = (new, w, refl);
   built = λ k d l. one k d l;
-  writes = subst (Writes r a b i j) (sym (append-nil (item_lines (WorkItem v [] act)))) writes;
+  writes = subst (Writes r a b i j) (sym (append-nil (item_lines (WorkItem v weights act)))) writes;
   reached = same r;
 }
   where
-    one : All IsBuiltItem (WorkItem v [] act ∷ [])
-    one zero d l = omega arith
+    one : All IsBuiltItem (WorkItem v weights act ∷ [])
+    one zero d l = w.weights_count
     one (suc k) d l = absurd (omega arith)
 
     same : (t : Result A E) → OnOk t (new ≡ new)

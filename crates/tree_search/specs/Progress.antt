@@ -9,13 +9,14 @@ use Rattle.cable_definitions.specs.declared.claim.Claim.{Claim}
 use Rattle.cable_definitions.specs.declared.claim.Claim.TheVariants.{Optimal, Infeasible}
 use Rattle.cable_definitions.specs.Site.{Site, IsValid}
 use Rattle.cable_definitions.specs.Arcs.{AreArcs}
-use Rattle.cable_definitions.specs.Budget.{enough_budget}
+use Rattle.cable_definitions.specs.Budget.{enough_budget, IsNearest}
 use Rattle.cable_definitions.specs.Layout.{IsLegal, cost}
 use Rattle.cable_definitions.specs.Tree.{Status, Unworked, WasSplit, Stopped, WasDead, WasFull, Node, Item, Kept, node_of, IsAccepted, IsFull}
 use Rattle.proof_laws.specs.Decided.{HasPointRows}
 use Rattle.branch_tree.specs.State.{new_tree}
 use Rattle.tree_search.specs.declared.progress.Progress.{Progress}
 use Rattle.tree_search.specs.Chosen.{IsBeaten}
+use Rattle.tree_search.specs.Found.{AreAbove}
 
 -- what the search keeps of its items
 abbrev pub kept_of : Progress → Kept
@@ -46,24 +47,23 @@ IsSettled node = (node.status ≡ Stopped) ⊎ (node.status ≡ WasFull)
 abbrev pub AreBeaten : Option ℕ → List Node → Type 0
 AreBeaten known nodes = (v : ℕ) (node : Node) → node_of nodes v ≡ Some node → IsSettled node → IsBeaten known node.bound
 
--- a legal layout with this cost, in ascending order of start, and a full node that has this cost as its bound
-pub record IsBest (s : Site) (nodes : List Node) (cables : List Cable) (best : ℕ) : Type 0 where
+-- a legal layout with this cost, in ascending order of start
+pub record IsBest (s : Site) (cables : List Cable) (best : ℕ) : Type 0 where
   pub legal : IsLegal s cables
   pub cost_is : cost s cables ≡ best
   pub in_order : AllPairs (λ c d. c.from < d.from) cables
-  pub node : Node
-  pub number : ℕ
-  pub made : node_of nodes number ≡ Some node
-  pub full : node.status ≡ WasFull
-  pub bound : node.bound ≡ best
 
 -- the best layout where a cost is known, and no cable where none is
-abbrev pub IsKnown : Site → List Node → List Cable → Option ℕ → Type 0
-IsKnown s nodes cables None = cables ≡ []
-IsKnown s nodes cables (Some best) = IsBest s nodes cables best
+abbrev pub IsKnown : Site → List Cable → Option ℕ → Type 0
+IsKnown s cables None = cables ≡ []
+IsKnown s cables (Some best) = IsBest s cables best
+
+-- no made node's bound is below the sum of the least costs out of the turbines, once a work is done
+abbrev pub IsFloored : Site → ℕ → List Node → Type 0
+IsFloored s works nodes = (nearest : ℕ) → IsNearest s nearest → (works ≡ 0) ⊎ AreAbove nearest nodes
 
 -- What holds before each work: the items so far are accepted, all rows of points are listed, the open nodes are those that aren't worked, and the
--- best layout is the cheapest of the full nodes.
+-- best layout costs no more than the bound of any stopped or full node.
 pub record IsSearching (s : Site) (arcs : List Arc) (n : ℕ) (p : Progress) : Type 0 where
   pub valid : IsValid s
   pub are_arcs : AreArcs s arcs
@@ -71,7 +71,6 @@ pub record IsSearching (s : Site) (arcs : List Arc) (n : ℕ) (p : Progress) : T
   pub budget : p.tree.budget ≡ n
   pub arcs_count : p.tree.arcs ≡ length arcs
   pub marks_count : length p.decisions ≡ length arcs
-  pub no_weights : p.work.weights ≡ []
   pub room : n + 2 ≤ vec_capacity p.open_nodes
   pub few : length p.open_nodes.items ≤ p.tree.works + 1
   pub items : List Item
@@ -79,18 +78,17 @@ pub record IsSearching (s : Site) (arcs : List Arc) (n : ℕ) (p : Progress) : T
   pub rows : HasPointRows s arcs p.pool
   pub are_open : AreOpen p.tree.nodes p.open_nodes.items
   pub beaten : AreBeaten p.known p.tree.nodes
-  pub known : IsKnown s p.tree.nodes p.best p.known
+  pub known : IsKnown s p.best p.known
+  pub floored : IsFloored s p.tree.works p.tree.nodes
 
--- a search that has done nothing yet, for so many arcs and works
-pub record IsFresh (arcs n : ℕ) (p : Progress) : Type 0 where
+-- a search that has worked no node yet, with room for so many works
+pub record IsFresh (s : Site) (arcs : List Arc) (n : ℕ) (p : Progress) : Type 0 where
   pub rows : p.pool ≡ []
-  pub tree : p.tree ≡ new_tree n arcs
-  pub marks_count : length p.decisions ≡ arcs
+  pub tree : p.tree ≡ new_tree n (length arcs)
+  pub marks_count : length p.decisions ≡ length arcs
   pub open_nodes : p.open_nodes.items ≡ 1 ∷ []
   pub room : n + 2 ≤ vec_capacity p.open_nodes
-  pub best : p.best ≡ []
-  pub known : p.known ≡ None
-  pub no_weights : p.work.weights ≡ []
+  pub known : IsKnown s p.best p.known
 
 -- A full layout of this cost was found: it is the best where it is cheaper than the known one or none was known, and else nothing changes.
 abbrev pub KeepsBest : Site → List Arc → List Mark → ℕ → Option ℕ → List Cable → Option ℕ → List Cable → Type 0

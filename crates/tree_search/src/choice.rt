@@ -1,9 +1,12 @@
 //! The act that is chosen on a node.
 
-ghost use Rattle.std.specs.Prelude.{◌≡◌, ℕ, ◌^◌, ◌≤◌, ◌<◌, ◌↔◌, pos, ◌≤ℤ◌, ◌<ℤ◌, unsigned_abs, [], length, IsTrue, slice_get, Some, IfSome, IfNone};
+ghost use Rattle.std.specs.Prelude.{◌≡◌, ℕ, ◌^◌, ◌≤◌, ◌<◌, ◌↔◌, pos, ◌≤ℤ◌, ◌<ℤ◌, unsigned_abs, length, IsTrue, All, slice_get, Some, IfSome, IfNone};
 ghost use Rattle.cable_definitions.specs.declared.row.Mark.{Mark as AMark};
 ghost use Rattle.cable_definitions.specs.Arcs.{AreArcs};
 ghost use Rattle.cable_definitions.specs.Tree.{marks_of};
+ghost use Rattle.cable_definitions.specs.Row.{IsWellFormed};
+ghost use Rattle.cable_definitions.specs.Choice.{AreLawful};
+ghost use Rattle.turbine_weights.specs.Turbines.{AreTurbineWeights};
 ghost use Rattle.proof_laws.specs.Decided.{HasPointRows};
 ghost use Rattle.branch_tree.specs.State.{IsMade};
 ghost use Rattle.tree_search.specs.Chosen.{IsBeaten, IsChosen, IsBoundOf};
@@ -13,6 +16,7 @@ use branch_tree::{Act, Tree, find_dead, is_full};
 use cable_rows::RowPool;
 use candidate_cables::Arcs;
 use site_model::Site;
+use turbine_weights::weigh_turbines;
 
 /// An act on a node, and the bound that the node has after it, in cost units.
 #[derive(Clone, Copy)]
@@ -21,28 +25,34 @@ pub(crate) struct Choice {
     pub(crate) bound: i128,
 }
 
-/// Marks the arcs as a node decides them, and answers the bound that the weights give it, in cost units.
+/// Marks the arcs as a node decides them, weighs the rows of the turbines there, and answers the bound that the weights give the node, in
+/// cost units.
 pub(crate) fn bound_of(
     site: &Site,
     arcs: &Arcs,
     pool: &RowPool,
     tree: &Tree,
-    weights: &Weights,
     node: u32,
     decisions: &mut Decisions,
+    weights: &mut Weights,
 ) -> i128
     requires arcs { AreArcs site.now arcs.now }
     requires arcs_count { tree.now.arcs ≡ length arcs.now }
     requires marks_count { length decisions.old ≡ length arcs.now }
-    requires no_weights { weights.now ≡ [] }
+    requires well_formed { All (IsWellFormed site.now arcs.now) pool.now }
     requires made { IsMade tree.now.nodes node }
     ensures marks { decisions.new ≡ marks_of arcs.now tree.now.nodes node }
     ensures marks_count { length decisions.new ≡ length arcs.now }
-    ensures bound { IsBoundOf site.now arcs.now pool.now tree.now.nodes node weights.now (unsigned_abs result) }
+    ensures lawful { AreLawful pool.now weights.new }
+    ensures few { length weights.new ≤ 1024 }
+    ensures weights { AreTurbineWeights site.now arcs.now pool.now decisions.new weights.new }
+    ensures bound { IsBoundOf site.now arcs.now pool.now tree.now.nodes node weights.new (unsigned_abs result) }
     ensures not_negative { pos 0 ≤ℤ result }
     ensures small { result <ℤ pos (2 ^ 100) }
 {
     tree.decisions(node, decisions);
+    weigh_turbines(site, arcs, pool, decisions, weights);
+    let _few = weights.as_slice();
     let value = weigh(site, arcs, pool, decisions, weights);
     rounded_bound(tree.bound(node), value)
 }

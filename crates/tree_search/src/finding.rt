@@ -51,8 +51,12 @@ impl From<Failed> for SearchFault {
 }
 
 /// Finds the cheapest legal layout of a site, or that there is none, by splitting candidate arcs into
-/// used and unused, and appends each row and each work to `out` when it is made: first the rows of the
-/// turbines, of the points and of the bends, then the works, the last made open node first.
+/// used and unused. It begins with a settled layout, where the greedy growth or the straight layout gives
+/// a legal one, and stops at each node that is neither dead nor full and whose bound isn't below the
+/// least cost so far.
+///
+/// Appends each row and each work to `out` when it is made: first the rows of the turbines, of the points
+/// and of the bends, then the works, the last made open node first.
 ///
 /// The budget of works has to be enough for the site, so that the search always ends.
 ///
@@ -75,7 +79,7 @@ pub fn search<O: Sink>(
     ensures failed { result ≡ Err SearchFault.Write → Rose (O.faults out.old) (O.faults out.new) }
     ensures count { O.faults out.old ≤ O.faults out.new }
 {
-    let mut progress = Progress::new(alloc, arcs.len(), budget)?;
+    let mut progress = Progress::new(alloc, site, arcs, budget)?;
     progress.run(site, arcs, out)?;
     Ok(progress.into_plan())
 }

@@ -5,6 +5,7 @@ mod choice;
 mod finding;
 mod progress;
 mod rows;
+mod start;
 
 pub use finding::{Plan, SearchFault, search};
 

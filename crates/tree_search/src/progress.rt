@@ -12,18 +12,19 @@ ghost use Rattle.tree_search.specs.Progress.{kept_of, IsFresh, IsSearching, Keep
 use crate::choice::{Choice, bound_of, choose, is_beaten};
 use crate::finding::Plan;
 use crate::rows::list_first_rows;
+use crate::start::first_best;
 use bound_value::{Decisions, Weights};
 use branch_tree::{Act, Claim, Tree, Work, full_layout};
 use cable_rows::RowPool;
 use cable_text::{Failed, Sink};
 use candidate_cables::Arcs;
 use layout_meaning::Layout;
-use proof_text::write_work;
+use proof_lines::write_work;
 use site_model::Site;
 use std::alloc::{AllocError, Global};
 
-/// The rows, the tree and its open nodes, and the cheapest layout so far with its cost. The decisions are those of the node that is worked, and
-/// the work is the last that was done.
+/// The rows, the tree and its open nodes, and the cheapest layout so far, which is at first the one to begin with, with its cost. The decisions
+/// are those of the node that is worked, and the work is the last that was done.
 #[derive(Drop)]
 pub(crate) struct Progress {
     pool: RowPool,
@@ -105,24 +106,31 @@ fn settle(
 }
 
 impl Progress {
-    /// A search that has done nothing yet. All memory of the search is taken here.
+    /// A search that has worked no node yet, and knows the layout to begin with. All memory of the search is taken here.
     ///
     /// # Errors
     ///
     /// `AllocError` where there is no memory.
-    pub(crate) fn new(alloc: Global, arcs: u32, budget: u32) -> Result<Progress, AllocError>
+    pub(crate) fn new(
+        alloc: Global,
+        site: &Site,
+        arcs: &Arcs,
+        budget: u32,
+    ) -> Result<Progress, AllocError>
+        requires arcs { AreArcs site.now arcs.now }
         requires some_work { 1 ≤ budget }
         requires most_works { budget ≤ 50000 }
-        requires most_arcs { arcs ≤ 65280 }
-        ensures { IfOk result (IsFresh arcs budget) }
+        ensures { IfOk result (IsFresh site.now arcs.now budget) }
     {
+        let count = arcs.len();
+        let best = first_best(alloc, site, arcs)?;
         Ok(Progress {
             pool: RowPool::new(alloc)?,
-            tree: Tree::new(alloc, budget, arcs)?,
-            decisions: Decisions::new(alloc, arcs)?,
+            tree: Tree::new(alloc, budget, count)?,
+            decisions: Decisions::new(alloc, count)?,
             open_nodes: first_open(alloc, budget)?,
-            best: Layout::new(alloc)?,
-            known: None,
+            best: best.layout,
+            known: best.known,
             work: Work {
                 node: 0,
                 weights: Weights::new(alloc)?,
@@ -153,9 +161,9 @@ impl Progress {
             arcs,
             &self.pool,
             &self.tree,
-            &self.work.weights,
             node,
             &mut self.decisions,
+            &mut self.work.weights,
         );
         let Choice { act, bound } = choose(
             site,
@@ -216,10 +224,10 @@ impl Progress {
         out: &mut O,
     ) -> Result<(), Failed>
         requires arcs { AreArcs site.now arcs.now }
-        requires fresh { (n : ℕ) × (enough_budget arcs.now ≤ n) × IsFresh (length arcs.now) n self.old }
-        ensures advances { (n : ℕ) → enough_budget arcs.now ≤ n → IsFresh (length arcs.now) n self.old
+        requires fresh { (n : ℕ) × (enough_budget arcs.now ≤ n) × IsFresh site.now arcs.now n self.old }
+        ensures advances { (n : ℕ) → enough_budget arcs.now ≤ n → IsFresh site.now arcs.now n self.old
             → Advances result site.now arcs.now n nothing_kept (kept_of self.new) (O.taken out.old) (O.taken out.new) (O.faults out.old) (O.faults out.new) }
-        ensures searching { OnOk result ((n : ℕ) → enough_budget arcs.now ≤ n → IsFresh (length arcs.now) n self.old → IsSearching site.now arcs.now n self.new) }
+        ensures searching { OnOk result ((n : ℕ) → enough_budget arcs.now ≤ n → IsFresh site.now arcs.now n self.old → IsSearching site.now arcs.now n self.new) }
         ensures none { OnOk result (self.new.open_nodes.items ≡ []) }
     {
         let _valid = site.points();
@@ -227,8 +235,7 @@ impl Progress {
         self.work_all(site, arcs, out)
     }
 
-    /// The cheapest layout of the full nodes with the claim that its cost is optimal; no cable and the claim that there is no layout, where
-    /// no node was full.
+    /// The cheapest layout so far with the claim that its cost is optimal; no cable and the claim that there is no layout, where none was found.
     pub(crate) fn into_plan(self) -> Plan
         ensures layout { result.layout ≡ self.best }
         ensures claim { result.claim ≡ claim_of self.known }

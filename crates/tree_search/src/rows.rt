@@ -11,7 +11,7 @@ ghost use Rattle.tree_search.specs.PointRows.{point_row, AreFew, IsIn, AreStillI
 use cable_rows::{RowKind, RowPool, row_form};
 use cable_text::{Failed, Sink};
 use candidate_cables::Arcs;
-use proof_text::write_row;
+use proof_lines::write_row;
 use site_model::Site;
 
 /// Lists and writes the row of a kind on a point, where it is well formed.

@@ -89,9 +89,9 @@ fn sites_without_layouts(rt: HostRuntime) -> Result<(), Fail> {
     Ok(())
 }
 
-/// The items of a turbine 500 metres from its substation.
-const ITEMS: &str =
-    "row out 1\nrow inlet 0\nrow inlet 1\nwork 1 0\nsplit 0\nwork 2 0\nfull\nwork 3 0\ndead row 0\n";
+/// The items of a turbine 500 metres from its substation: the layout to begin with costs what the weight
+/// of node 1 proves.
+const ITEMS: &str = "row out 1\nrow inlet 0\nrow inlet 1\nwork 1 1\nby 0 52428800000\nstop\n";
 
 #[test]
 fn one_turbine(rt: HostRuntime) -> Result<(), Fail> {
@@ -124,7 +124,7 @@ fn a_failing_sink_ends_the_search(rt: HostRuntime) -> Result<(), Fail> {
     }
     assert_eq!(&rt;
         out.taken(),
-        b"row out 1\nrow inlet 0\nrow inlet 1\nwork 1 0\nsplit 0".as_slice()
+        b"row out 1\nrow inlet 0\nrow inlet 1\nwork 1 1\nby 0 52".as_slice()
     );
     Ok(())
 }

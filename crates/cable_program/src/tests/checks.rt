@@ -15,7 +15,7 @@ fn a_document_is_accepted(rt: HostRuntime) -> Result<(), AllocError> {
 }
 
 /// What stands in the document, what is put in its place, and how the cause and the line are noted.
-const CHANGES: [(&str, &str, &str); 33] = [
+const CHANGES: [(&str, &str, &str); 35] = [
     ("split 0", "split 1", "Arc at line 10"),
     ("dead row 0", "dead row 1", "Dead at line 14"),
     ("dead row 0", "full", "Full at line 14"),
@@ -37,8 +37,10 @@ const CHANGES: [(&str, &str, &str); 33] = [
     ("row out 1", "row out 1 1", "Form at line 8"),
     ("row out 1", "row out 01", "Form at line 8"),
     ("row out 1", "row cut 1", "Form at line 8"),
-    ("row out 1", "row power 0", "Form at line 8"),
-    ("work 1 0", "work 1 1", "Limit at line 9"),
+    ("row out 1", "row one 0", "Form at line 8"),
+    ("row out 1", "row power 1", "Row at line 8"),
+    ("work 1 0", "work 1 1", "Form at line 10"),
+    ("work 1 0", "work 1 1025", "Limit at line 9"),
     ("work 1 0", "work 0 0", "Limit at line 9"),
     ("work 1 0", "work 1", "Form at line 9"),
     ("dead row 0", "dead load 1", "Dead at line 14"),
@@ -62,7 +64,7 @@ const CHANGES: [(&str, &str, &str); 33] = [
 ];
 
 /// The text with one part of it, which stands in it, changed.
-fn changed(
+pub fn changed(
     alloc: std::alloc::Global,
     text: &str,
     old: &str,
@@ -77,6 +79,14 @@ fn changed(
     Ok(changed)
 }
 
+/// The cause and the line of a note.
+pub fn cause_of(note: &[u8]) -> Option<&[u8]> {
+    match note.strip_prefix(b"document refused: ".as_slice()) {
+        Some(rest) => rest.strip_suffix(b"\n".as_slice()),
+        None => None,
+    }
+}
+
 #[test]
 fn a_changed_document_is_refused(rt: HostRuntime) -> Result<(), AllocError> {
     let alloc = rt.alloc();
@@ -85,15 +95,10 @@ fn a_changed_document_is_refused(rt: HostRuntime) -> Result<(), AllocError> {
         let check = run_on(alloc, &["check"], document.as_str())?;
         assert_eq!(rt; check.status, 6, "{old} {new}");
         assert!(rt; check.out.is_empty());
-        let noted = check
-            .note
-            .as_slice()
-            .strip_prefix(b"document refused: ".as_slice());
-        let cause = match noted {
-            Some(rest) => rest.strip_suffix(b"\n".as_slice()),
-            None => None,
-        };
-        assert!(rt; cause == Some(note.as_bytes()), "{old} {new}");
+        assert!(rt;
+            cause_of(check.note.as_slice()) == Some(note.as_bytes()),
+            "{old} {new}"
+        );
     }
     Ok(())
 }
@@ -151,6 +156,55 @@ fn documents_are_judged_alone(rt: HostRuntime) -> Result<(), AllocError> {
         } else {
             assert!(rt; check.note.as_slice() == text.as_bytes(), "{document}");
         }
+    }
+    Ok(())
+}
+
+/// A document of a part: the substation takes one cable, which bears two turbines, and C is the third.
+pub const OPEN: &str =
+    "site 1\nmode tree\ntype 200 1\nsubstation S 0 0 1 10000\nturbine A 0 1000 100\nturbine B 1000 0 100\nturbine C 1000 1000 100\nend site\nbudget 1\nwork 1 0\nstop\nlayout 2\ncable A S 0\ncable B A 0\nopen 0 stuck C\nend document\n";
+
+/// What stands in it, what is put in its place, and how the cause and the line are noted.
+const OPENED: [(&str, &str, &str); 12] = [
+    ("stuck C", "stuck B", "Layout at line 15"),
+    // C can be joined to A.
+    (
+        "2\ncable A S 0\ncable B A 0",
+        "1\ncable A S 0",
+        "Layout at line 14",
+    ),
+    ("stuck C", "stuck S", "Layout at line 15"),
+    ("stuck C", "stuck X", "Layout at line 15"),
+    ("cable B A 0", "cable B S 0", "Layout at line 15"),
+    ("open 0", "open 1", "Verdict at line 15"),
+    ("budget 1", "budget 2", "Verdict at line 15"),
+    ("open 0", "open 9223372036854775808", "Limit at line 15"),
+    // Ranges are judged before names.
+    (
+        "open 0 stuck C",
+        "open 9223372036854775808 stuck X",
+        "Limit at line 15",
+    ),
+    ("open 0 stuck C", "open 0 stuck", "Form at line 15"),
+    ("open 0 stuck C", "gap 2415 0", "Layout at line 15"),
+    ("open 0 stuck C", "infeasible", "Layout at line 15"),
+];
+
+#[test]
+fn a_part_is_judged_alone(rt: HostRuntime) -> Result<(), AllocError> {
+    let alloc = rt.alloc();
+    let check = run_on(alloc, &["check"], OPEN)?;
+    assert_eq!(rt; check.status, 0);
+    assert!(rt; check.out.as_slice() == b"yes bound 0\n".as_slice());
+    for (old, new, note) in OPENED {
+        let document = changed(alloc, OPEN, old, new)?;
+        let check = run_on(alloc, &["check"], document.as_str())?;
+        assert_eq!(rt; check.status, 6, "{old} {new}");
+        assert!(rt; check.out.is_empty());
+        assert!(rt;
+            cause_of(check.note.as_slice()) == Some(note.as_bytes()),
+            "{old} {new}"
+        );
     }
     Ok(())
 }

@@ -3,7 +3,7 @@ use std::alloc::{AllocError, Global};
 
 /// What a plan of the first site is.
 const FIRST_PLAN: &str =
-    "site 1\nmode tree\ntype 400 100\nsubstation S 0 0 4 10000\nturbine A 300 400 100\nend site\nbudget 8191\nrow out 1\nrow inlet 0\nrow inlet 1\nwork 1 0\nsplit 0\nwork 2 0\nfull\nwork 3 0\ndead row 0\nlayout 1\ncable A S 0\noptimal 50000\nend document\n";
+    "site 1\nmode tree\ntype 400 100\nsubstation S 0 0 4 10000\nturbine A 300 400 100\nend site\nbudget 8191\nrow out 1\nrow inlet 0\nrow inlet 1\nwork 1 1\nby 0 52428800000\nstop\nlayout 1\ncable A S 0\noptimal 50000\nend document\n";
 
 /// A site in its lines, the status, and how its plan ends.
 const PLANS: [(&str, u8, &str); 25] = [

@@ -1,9 +1,9 @@
-use super::checks::DOCUMENT;
+use super::checks::{DOCUMENT, OPEN};
 use super::{FIRST, ran_with, run_on};
 use std::alloc::AllocError;
 
 /// The report of the plan of the first site.
-const FIRST_REPORT: &str =
+pub const FIRST_REPORT: &str =
     "mode tree\ncable A                S                 0      500      100               50000\ntype 0 cables 1 length 500 cost 50000\nsubstation S feeders 1 of 4 power 100 of 10000\noptimal 50000\n";
 
 /// A string by a bend, with two types.
@@ -50,7 +50,7 @@ fn what_is_refused_is_not_reported(rt: HostRuntime) -> Result<(), AllocError> {
     let report = ran_with(alloc, &["report"], cut, &[], &[], &[])?;
     assert_eq!(rt; report.status, 6);
     assert!(rt; report.out.is_empty());
-    assert!(rt; report.note.as_slice() == b"document refused: Line at line 20\n".as_slice());
+    assert!(rt; report.note.as_slice() == b"document refused: Line at line 17\n".as_slice());
     Ok(())
 }
 
@@ -59,5 +59,17 @@ fn a_document_is_reported_whoever_wrote_it(rt: HostRuntime) -> Result<(), AllocE
     let report = run_on(rt.alloc(), &["report"], DOCUMENT)?;
     assert_eq!(rt; report.status, 0);
     assert!(rt; report.out.as_slice() == FIRST_REPORT.as_bytes());
+    Ok(())
+}
+
+/// The report of a part.
+const OPEN_REPORT: &str =
+    "mode tree\ncable A                S                 0     1000      200                1000\ncable B                A                 0     1415      100                1415\ntype 0 cables 2 length 2415 cost 2415\nsubstation S feeders 1 of 1 power 200 of 10000\nopen 0 stuck C\n";
+
+#[test]
+fn a_part_is_reported(rt: HostRuntime) -> Result<(), AllocError> {
+    let report = run_on(rt.alloc(), &["report"], OPEN)?;
+    assert_eq!(rt; report.status, 0);
+    assert!(rt; report.out.as_slice() == OPEN_REPORT.as_bytes());
     Ok(())
 }

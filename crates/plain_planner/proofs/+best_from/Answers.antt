@@ -1,4 +1,4 @@
-use Rattle.std.proofs.Common.{◌+◌, List, ◌∷◌, [], ◌++◌, length, get_or, arith, sym, ◌∙◌, ap, subst}
+use Rattle.std.proofs.Common.{◌+◌, List, length, get_or, arith, sym, ◌∙◌, ap, subst}
 use Rattle.cable_definitions.specs.declared.cable.Cable.{Cable}
 use Rattle.plain_planner.specs.Choices.{cable_to, Completes, CompletesBelow, IsBest}
 use Rattle.plain_planner.proofs.Best.{one_more_end, all_ends, popped, pushed_on, kept_on}

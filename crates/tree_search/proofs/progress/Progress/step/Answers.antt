@@ -1,5 +1,7 @@
 use Rattle.std.proofs.Common.{◌∙◌, sym, refl, true, Err}
+use Rattle.proof_laws.proofs.Sound.{sound-accepted}
 use Rattle.tree_search.specs.declared.progress.Progress.{Progress}
+use Rattle.tree_search.specs.Progress.{kept_of}
 use Rattle.tree_search.proofs.Advancing.{advances-ok, advances-failed}
 use Rattle.tree_search.proofs.Choosing.{split-within}
 use Rattle.tree_search.proofs.Stepping.{taken, never_refused, has_room, is_step, advances-step, step-searching, counts}
@@ -9,6 +11,11 @@ pub bound_of-bound-requires-clause-made : goal.bound_of-bound-requires-clause-ma
 bound_of-bound-requires-clause-made g c =
     let t = taken c.args.site.now c.args.arcs.now c.requires.searching.0 c.args.self.now c.pop.new.self.items c.in-Some.node c.requires.searching.1 c.in-Some.ensures.items in
     (t.0, t.1)
+
+pub bound_of-bound-requires-clause-well_formed : goal.bound_of-bound-requires-clause-well_formed
+bound_of-bound-requires-clause-well_formed g c =
+    let searching = c.requires.searching.1 in
+    (sound-accepted c.args.site.now c.args.arcs.now c.requires.searching.0 searching.items (kept_of c.args.self.now) searching.valid searching.are_arcs searching.accepted).well_formed
 
 pub work-requires-clause-within : goal.work-requires-clause-within
 work-requires-clause-within g c =
@@ -34,7 +41,7 @@ returns-in_err-write_work-clause-advances g c = λ n searching.
       open_nodes = c.push_children.new.nodes;
       best = c.settle.new.best;
       known = c.settle.new.known;
-      work = record { node = c.in-Some.node; weights = c.args.self.now.work.weights; act = c.choose-act.result.act };
+      work = record { node = c.in-Some.node; weights = c.bound_of-bound.new.weights; act = c.choose-act.result.act };
     }
     in
     advances-failed c.from_residual.ensures.0
@@ -42,7 +49,7 @@ returns-in_err-write_work-clause-advances g c = λ n searching.
     (is_step c.args.site.now c.args.arcs.now c.args.self.now q c.in-Some.node c.choose-act.result.act c.bound_of-bound.result c.choose-act.result.bound c.pop.new.self.items c.count-count.result
     c.in-Some.ensures.items c.bound_of-bound.ensures.not_negative c.bound_of-bound.ensures.small c.choose-act.ensures.not_negative c.choose-act.ensures.small c.bound_of-bound.ensures.bound
     c.bound_of-bound.ensures.marks c.bound_of-bound.ensures.marks_count c.choose-act.ensures.chosen c.in-Ok.ensures.ok refl c.count-count.ensures.count c.push_children.ensures.split
-    c.push_children.ensures.other (c.push_children.ensures.room ∙ c.pop.ensures.capacity) c.settle.ensures refl)
+    c.push_children.ensures.other (c.push_children.ensures.room ∙ c.pop.ensures.capacity) c.settle.ensures c.bound_of-bound.ensures.lawful c.bound_of-bound.ensures.few c.bound_of-bound.ensures.weights)
     c.in_err-write_work.ensures)
 
 pub returns-clause-advances : goal.returns-clause-advances
@@ -55,7 +62,7 @@ returns-clause-advances g c = λ n searching.
       open_nodes = c.push_children.new.nodes;
       best = c.settle.new.best;
       known = c.settle.new.known;
-      work = record { node = c.in-Some.node; weights = c.args.self.now.work.weights; act = c.choose-act.result.act };
+      work = record { node = c.in-Some.node; weights = c.bound_of-bound.new.weights; act = c.choose-act.result.act };
     }
     in
     advances-ok true
@@ -63,7 +70,7 @@ returns-clause-advances g c = λ n searching.
     (is_step c.args.site.now c.args.arcs.now c.args.self.now q c.in-Some.node c.choose-act.result.act c.bound_of-bound.result c.choose-act.result.bound c.pop.new.self.items c.count-count.result
     c.in-Some.ensures.items c.bound_of-bound.ensures.not_negative c.bound_of-bound.ensures.small c.choose-act.ensures.not_negative c.choose-act.ensures.small c.bound_of-bound.ensures.bound
     c.bound_of-bound.ensures.marks c.bound_of-bound.ensures.marks_count c.choose-act.ensures.chosen c.in-Ok.ensures.ok refl c.count-count.ensures.count c.push_children.ensures.split
-    c.push_children.ensures.other (c.push_children.ensures.room ∙ c.pop.ensures.capacity) c.settle.ensures refl)
+    c.push_children.ensures.other (c.push_children.ensures.room ∙ c.pop.ensures.capacity) c.settle.ensures c.bound_of-bound.ensures.lawful c.bound_of-bound.ensures.few c.bound_of-bound.ensures.weights)
     c.in_ok-write_work.ensures)
 
 pub returns-clause-searching : goal.returns-clause-searching
@@ -72,7 +79,7 @@ returns-clause-searching g c = λ n searching.
     (is_step c.args.site.now c.args.arcs.now c.args.self.now _ c.in-Some.node c.choose-act.result.act c.bound_of-bound.result c.choose-act.result.bound c.pop.new.self.items c.count-count.result
     c.in-Some.ensures.items c.bound_of-bound.ensures.not_negative c.bound_of-bound.ensures.small c.choose-act.ensures.not_negative c.choose-act.ensures.small c.bound_of-bound.ensures.bound
     c.bound_of-bound.ensures.marks c.bound_of-bound.ensures.marks_count c.choose-act.ensures.chosen c.in-Ok.ensures.ok refl c.count-count.ensures.count c.push_children.ensures.split
-    c.push_children.ensures.other (c.push_children.ensures.room ∙ c.pop.ensures.capacity) c.settle.ensures refl)
+    c.push_children.ensures.other (c.push_children.ensures.room ∙ c.pop.ensures.capacity) c.settle.ensures c.bound_of-bound.ensures.lawful c.bound_of-bound.ensures.few c.bound_of-bound.ensures.weights)
 
 pub returns-clause-more : goal.returns-clause-more
 returns-clause-more g c = λ more.
