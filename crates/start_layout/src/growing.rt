@@ -6,44 +6,54 @@ ghost use Rattle.cable_definitions.specs.Part.{IsBlocked};
 ghost use Rattle.layout_meaning.specs.Joining.{IsUnjoined};
 ghost use Rattle.start_layout.specs.Starting.{AllBlocked};
 
-use crate::straight::{is_substation, is_turbine, power_at, straight_cable};
+use crate::straight::{is_substation, is_turbine, power_at};
 use candidate_cables::Arcs;
 use layout_meaning::{Outgoing, PartialLayout};
 use site_model::Site;
 use std::alloc::{AllocError, Global};
 
-/// An arc out of a turbine, and what it costs more than the turbine's straight cable, each at the turbine's own power. It is tried once.
+/// An arc out of a turbine, its cost, and what it costs more than a cable to the nearest substation, each at the turbine's own power; how often
+/// the turbine was left over by a growth before; and whether the arc was tried, which is done once.
 #[derive(Clone, Copy)]
 pub(crate) struct Choice {
     from: u32,
     to: u32,
+    cost: u64,
     extra: i128,
+    urgency: u32,
     tried: bool,
 }
 
-/// The cost of the straight cable out of a point, or the greatest cost where there is none.
-fn straight_cost(site: &Site, arcs: &Arcs, from: u32) -> u64
-    requires arcs { AreArcs site.now arcs.now }
+/// The cost of a cable from a point to the nearest substation, at the point's own power, whether or not it may run there; the greatest cost
+/// where there is no substation, or no type that bears the power.
+fn way_in_cost(site: &Site, from: u32) -> u64
     requires from { from < length site.now.points }
 {
-    match straight_cable(site, arcs, from) {
-        None => u64::MAX,
-        Some((cable, cost)) => cost,
+    let power = power_at(site, from);
+    let mut least = u64::MAX;
+    for to in 0..site.points().len() as u32 {
+        if is_substation(site, to) {
+            if let Some((grade, cost)) = site.cheapest(from, to, power) {
+                least = least.min(cost);
+            }
+        }
     }
+    least
 }
 
-/// Lists the arcs out of a turbine.
+/// Lists the arcs out of a turbine that was left over so often.
 fn list_choices(
     choices: &mut Vec<Choice>,
     site: &Site,
     arcs: &Arcs,
     turbine: u32,
+    urgency: u32,
 ) -> Result<(), AllocError>
     requires arcs { AreArcs site.now arcs.now }
     requires turbine { turbine < length site.now.points }
 {
     let power = power_at(site, turbine);
-    let straight = straight_cost(site, arcs, turbine);
+    let way_in = way_in_cost(site, turbine);
     let count = site.points().len();
     let (first, past) = arcs.out_of(turbine);
     for number in first..past {
@@ -53,7 +63,9 @@ fn list_choices(
                 choices.push(Choice {
                     from: turbine,
                     to,
-                    extra: cost as i128 - straight as i128,
+                    cost,
+                    extra: cost as i128 - way_in as i128,
+                    urgency,
                     tried: false,
                 })?;
             }
@@ -62,21 +74,27 @@ fn list_choices(
     Ok(())
 }
 
-/// The arcs out of all turbines, the greatest saving first; of equal ones in their order.
+/// The arcs out of all turbines: those of the turbines first that were left over most often, then the greatest saving, then the cheapest arc; of
+/// equal ones in their order.
 pub(crate) fn all_choices(
     alloc: Global,
     site: &Site,
     arcs: &Arcs,
+    urgencies: &[u32],
 ) -> Result<Vec<Choice>, AllocError>
     requires { AreArcs site.now arcs.now }
 {
     let mut choices = Vec::new(alloc);
     for turbine in 0..site.points().len() as u32 {
         if is_turbine(site, turbine) {
-            list_choices(&mut choices, site, arcs, turbine)?;
+            let urgency = match urgencies.get(turbine as usize) {
+                None => 0,
+                Some(times) => *times,
+            };
+            list_choices(&mut choices, site, arcs, turbine, urgency)?;
         }
     }
-    choices.sort_by_key(|choice| choice.extra)?;
+    choices.sort_by_key(|choice| (u32::MAX - choice.urgency, choice.extra, choice.cost))?;
     Ok(choices)
 }
 

@@ -14,6 +14,9 @@ use layout_meaning::{Layout, PartialLayout, Verdict, judge};
 use site_model::Site;
 use std::alloc::{AllocError, Global};
 
+/// How often a growth that got stuck begins anew.
+const MOST_GROWTHS: u32 = 32;
+
 /// A layout to begin with, or a part of one to which some turbine can't be joined.
 #[derive(Drop)]
 pub enum Start {
@@ -42,12 +45,45 @@ pub fn greedy(alloc: Global, site: &Site, arcs: &Arcs) -> Result<Start, AllocErr
     }
 }
 
-/// What is grown by the greatest saving.
+/// The turbine at which a growth got stuck.
+fn stuck_turbine(start: &Start) -> Option<u32> {
+    match start {
+        Start::Found(..) => None,
+        Start::Stuck { turbine, .. } => Some(*turbine),
+    }
+}
+
+/// What is grown by the greatest saving. Where a turbine is left over, the growth begins anew, and that turbine is joined as early as can be
+/// (squeaky wheel optimisation, after Joslin and Clements).
 fn grow(alloc: Global, site: &Site, arcs: &Arcs) -> Result<Start, AllocError>
     requires { AreArcs site.now arcs.now }
     ensures { IfOk result (IsStart site.now) }
 {
-    let mut choices = all_choices(alloc, site, arcs)?;
+    let mut urgencies = Vec::from_elem(alloc, 0u32, 256)?;
+    let mut start = grow_once(alloc, site, arcs, urgencies.as_slice())?;
+    for attempt in 0..MOST_GROWTHS {
+        let Some(turbine) = stuck_turbine(&start) else {
+            return Ok(start);
+        };
+        if let Some(times) = urgencies.as_mut_slice().get_mut(turbine as usize) {
+            *times = times.saturating_add(1);
+        }
+        start = grow_once(alloc, site, arcs, urgencies.as_slice())?;
+    }
+    Ok(start)
+}
+
+/// What is grown by the greatest saving, those turbines first that were left over so often before.
+fn grow_once(
+    alloc: Global,
+    site: &Site,
+    arcs: &Arcs,
+    urgencies: &[u32],
+) -> Result<Start, AllocError>
+    requires { AreArcs site.now arcs.now }
+    ensures { IfOk result (IsStart site.now) }
+{
+    let mut choices = all_choices(alloc, site, arcs, urgencies)?;
     let mut part = PartialLayout::new(alloc, site)?;
     join_by_saving(site, &mut part, choices.as_mut_slice());
     join_all(&mut part, site.points().len() as u32);
