@@ -1,14 +1,12 @@
 -- The points that a broken rule names.
-use Rattle.std.proofs.Common.{◌≡◌, ℕ, ◌<◌, ◌≤◌, ◌⊎◌, List, length, get_or, Some, None, Option, ⊎_elim, refl, sym, ap, ◌∙◌, subst, arith, false, true}
+use Rattle.std.proofs.Common.{◌≡◌, ℕ, ◌<◌, ◌≤◌, List, length, None, ⊎_elim, sym, ap, ◌∙◌, subst, arith}
 use Rattle.std.specs.Prelude.{slice_get, All, IsTrue}
 use Rattle.std.proofs.lemmas.Bool.{false≢true, cases_lt}
 use Rattle.std.proofs.lemmas.Option.{none-some, slice_get_within, slice_get_past, get_or_from_slice_get}
 use Rattle.cable_definitions.specs.declared.cable.Cable.{Cable}
 use Rattle.cable_definitions.specs.declared.cable.Rule.{Rule}
 use Rattle.cable_definitions.specs.declared.cable.Rule.TheVariants.{Range, Candidate, Start, Unjoined, Bend, Lost, Overload, Feeders, Power, Branch, Clash}
-use Rattle.cable_definitions.specs.declared.site.Kind.{Kind}
-use Rattle.cable_definitions.specs.declared.site.Kind.TheVariants.{Turbine, Substation, Bend as BendKind}
-use Rattle.cable_definitions.specs.declared.site.Point.{Point}
+use Rattle.cable_definitions.specs.declared.site.Kind.TheVariants.{Substation, Bend as BendKind}
 use Rattle.cable_definitions.specs.Site.{Site}
 use Rattle.cable_definitions.specs.Arcs.{kind_of, kind_from, is_turbine, is_substation}
 use Rattle.cable_definitions.specs.Layout.{IsCable, Keeps, IsFirstBroken, IsLegal, cost}

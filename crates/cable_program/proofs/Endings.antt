@@ -1,10 +1,12 @@
 -- From what a command gives, and what is noted of its fault, to how it ends.
 use Rattle.std.proofs.Common.{◌≡◌, ℕ, sym, subst, ⊎_elim, inl, inr}
-use Rattle.std.specs.Prelude.{Err}
+use Rattle.std.specs.Prelude.{Ok, Err}
+use Rattle.cable_definitions.specs.declared.claim.Claim.{Claim}
 use Rattle.cable_program.specs.declared.ending.Ending.{Ending}
+use Rattle.cable_program.specs.declared.ending.Ending.TheVariants.{Done, Usage, SiteRefused, Gap as EndsInGap, Partial as EndsOpen, Infeasible as EndsInfeasible, DocumentRefused, ReadFault, WriteFault, Memory as EndsInWant}
 use Rattle.cable_program.specs.declared.fault.Fault.{Fault}
 use Rattle.cable_program.specs.declared.fault.Fault.TheVariants.{OfSite, OfDocument, Read, Write, Memory}
-use Rattle.cable_program.specs.Ends.{Stream, PlanEnds, CheckEnds, SiteEnds, JudgeEnds, ReportEnds}
+use Rattle.cable_program.specs.Ends.{Stream, Untouched, EndsWith, PrintsPlan, PlanEnds, CheckEnds, SiteEnds, JudgeEnds, ReportEnds}
 use Rattle.cable_program.specs.Noted.{IsNoted}
 use Rattle.cable_program.specs.PlanSteps.{PlanGives}
 use Rattle.cable_program.specs.DocumentSteps.{CheckGives, ReportGives}
@@ -22,6 +24,19 @@ plan_ends n input out note (OfDocument refusal) ending h m = absurd h
 plan_ends n input out note Read ending h m = ends_so (PlanEnds n input out note) ending _ m.0 (h.0, h.1, m.1)
 plan_ends n input out note Write ending h m = ends_so (PlanEnds n input out note) ending _ m.0 (inl (h.0, h.1, m.1))
 plan_ends n input out note Memory ending h m = ends_so (PlanEnds n input out note) ending _ m.0 (h, m.1)
+
+-- a plan that was printed ends as its claim says
+pub plan_done : (n : ℕ) (input out note : Stream) (claim : Claim) (ending : Ending) → PlanGives n input out (Ok claim) → Untouched note → EndsWith ending claim → PlanEnds n input out note ending
+plan_done n input out note claim Done h u e = ((e.0, subst (PrintsPlan n input out) e.1 h), u)
+plan_done n input out note claim EndsInGap h u e = ((e.0, e.1, subst (PrintsPlan n input out) e.2 h), u)
+plan_done n input out note claim EndsOpen h u e = ((e.0, e.1, subst (PrintsPlan n input out) e.2 h), u)
+plan_done n input out note claim EndsInfeasible h u e = (subst (PrintsPlan n input out) e h, u)
+plan_done n input out note claim Usage h u e = absurd e
+plan_done n input out note claim SiteRefused h u e = absurd e
+plan_done n input out note claim DocumentRefused h u e = absurd e
+plan_done n input out note claim ReadFault h u e = absurd e
+plan_done n input out note claim WriteFault h u e = absurd e
+plan_done n input out note claim EndsInWant h u e = absurd e
 
 pub check_ends : (input out note : Stream) (fault : Fault) (ending : Ending) → CheckGives input out (Err fault) → IsNoted fault note ending → CheckEnds input out note ending
 check_ends input out note (OfSite code place) ending h m = absurd h

@@ -1,6 +1,5 @@
 -- Notes whose push failed.
-use Rattle.std.proofs.Common.{◌≡◌, ℕ, ◌≤◌, ◌<◌, List, [], ◌++◌, Option, inl, inr, sym, arith, ⊎_elim}
-use Rattle.std.specs.Prelude.{◌⊎◌}
+use Rattle.std.proofs.Common.{ℕ, ◌≤◌, List, [], Option, inl, sym, arith, ⊎_elim}
 use Rattle.std.proofs.lemmas.List.{append-nil}
 use Rattle.cable_definitions.specs.Answers.{write_fault_note}
 use Rattle.cable_text.specs.Stream.{Rose, AppendsPrefix}

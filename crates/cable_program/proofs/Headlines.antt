@@ -1,11 +1,11 @@
 -- From how a command ends to what is promised of it.
-use Rattle.std.proofs.Common.{◌≡◌, ◌≢◌, ℕ, ◌≤◌, ◌<◌, List, [], ◌∷◌, length, refl, sym, ap, ◌∙◌, subst, arith, ⊎_elim, inl, inr}
-use Rattle.std.specs.Prelude.{codes, Some, ◌⊎◌}
+use Rattle.std.proofs.Common.{◌≡◌, ℕ, ◌≤◌, List, [], ◌∷◌, refl, sym, ap, ◌∙◌, subst, arith, ⊎_elim}
+use Rattle.std.specs.Prelude.{codes}
 use Rattle.std.specs.Fmt.{decimal}
 use Rattle.std.proofs.lemmas.Fmt.{decimal_injective}
 use Rattle.cable_definitions.specs.declared.cable.Cable.{Cable}
 use Rattle.cable_definitions.specs.declared.claim.Claim.{Claim}
-use Rattle.cable_definitions.specs.declared.claim.Claim.TheVariants.{Optimal, Infeasible}
+use Rattle.cable_definitions.specs.declared.claim.Claim.TheVariants.{Optimal, Gap, Partial, Infeasible}
 use Rattle.cable_definitions.specs.declared.command.Command.{Command}
 use Rattle.cable_definitions.specs.declared.command.Command.TheVariants.{Plan, Check, Site as SiteCommand, Migrate, Judge, Report, Rings, Carry, Drill}
 use Rattle.cable_definitions.specs.Site.{Site}
@@ -14,8 +14,6 @@ use Rattle.cable_definitions.specs.Text.{site_lines}
 use Rattle.cable_definitions.specs.Document.{Yes}
 use Rattle.cable_definitions.specs.Refusal.{IsJudged}
 use Rattle.cable_definitions.specs.Answers.{yes_line}
-use Rattle.cable_definitions.specs.Built.{IsBuiltWords, IsBuiltCommand, IsBuiltSite}
-use Rattle.cable_definitions.specs.Plan.{IsPlanned}
 use Rattle.cable_text.specs.Stream.{IsAtEnd}
 use Rattle.site_json.specs.Bytes.{IsSiteOf, IsFrontSite}
 use Rattle.site_json.proofs.Excluding.{site_same as one_site, site_no_fault as no_plan_fault, front_same as one_front, front_no_fault as no_front_fault}
@@ -24,38 +22,31 @@ use Rattle.document_laws.proofs.Yes.{yes-same, yes-stands}
 use Rattle.document_laws.proofs.Judged.{judged-same, judged-stands}
 use Rattle.cable_program.specs.declared.ending.Ending.{Ending}
 use Rattle.cable_program.specs.declared.ending.Ending.TheVariants.{Done, Usage, SiteRefused, Gap as EndsInGap, Partial as EndsOpen, Infeasible as EndsInfeasible, DocumentRefused, ReadFault, WriteFault, Memory}
-use Rattle.cable_program.specs.Ends.{Stream, Faulted, Told, Got, IsRead, IsAboveNearest, PrintsPlan, PlanEnds, CheckEnds, SiteEnds, JudgeEnds, ReportEnds, IsJudgement, IsReport, CommandEnds, EndsWith, RanWell}
+use Rattle.cable_program.specs.Words.{AsksFor, IsKnownCommand}
+use Rattle.cable_program.specs.Ends.{Stream, Told, Got, IsGoodPlan, PrintsPlan, PlanEnds, CheckEnds, SiteEnds, JudgeEnds, ReportEnds, IsJudgement, IsReport, CommandEnds, EndsWith, RanWell}
 
 -- ---- plan
 abbrev pub Promise : Site → ℕ → Stream → Stream → Ending → Type 0
-Promise s n input out ending = (printed : List ℕ) × (claim : Claim) × IsPlanned s n printed claim × IsAboveNearest s claim × Got out printed × EndsWith ending claim × IsAtEnd input.after
+Promise s n input out ending = (printed : List ℕ) × (claim : Claim) × IsGoodPlan s n printed claim × Got out printed × EndsWith ending claim × IsAtEnd input.after
 
-printed : (s t : Site) (n : ℕ) (text : List ℕ) (claim : Claim) (input out : Stream) (ending : Ending) → t ≡ s → IsRead input t → IsPlanned t n text claim → IsAboveNearest t claim → Got out text → EndsWith ending claim
+printed : (bytes : List ℕ) (s : Site) (n : ℕ) (claim : Claim) (input out : Stream) (ending : Ending) → Told input bytes → IsSiteOf bytes s → PrintsPlan n input out claim → EndsWith ending claim
     → Promise s n input out ending
-printed s t n text claim input out ending same read planned above got ends =
-    (text, claim, subst (λ (u : Site). IsPlanned u n text claim) same planned, subst (λ (u : Site). IsAboveNearest u claim) same above, got, ends, read.whole)
+printed bytes s n claim input out ending b a plan ends =
+    let same : plan.0 ≡ s = one_site bytes plan.0 s (plan.2.read bytes b) a in
+    (plan.1, claim, subst (λ (u : Site). IsGoodPlan u n plan.1 claim) same plan.3, plan.4, ends, plan.2.whole)
 
-too_many : (s t : Site) (n : ℕ) → t ≡ s → length s.points ≤ n → n < length t.points → ⊥
-too_many s t n same few many = absurd (omega (arith, few, many, ap (λ (u : Site). length u.points) same))
-
--- where no stream fails and memory lasts, an accepted site is planned
-pub promise_of : (n : ℕ) (bytes : List ℕ) (s : Site) (input out note : Stream) (ending : Ending) → PlanEnds n input out note ending → Told input bytes → IsSiteOf bytes s → IsBuiltSite s
+pub promise_of : (n : ℕ) (bytes : List ℕ) (s : Site) (input out note : Stream) (ending : Ending) → PlanEnds n input out note ending → Told input bytes → IsSiteOf bytes s
     → RanWell input out note ending → Promise s n input out ending
-promise_of n bytes s input out note Done h b a few r =
-    let plan = h.0.1 in
-    printed s plan.0 n plan.1 (Optimal h.0.0) input out Done (one_site bytes plan.0 s (plan.2.read bytes b) a) plan.2 plan.3 plan.4 plan.5 (h.0.0, refl)
-promise_of n bytes s input out note EndsInfeasible h b a few r =
-    let plan = h.0 in
-    printed s plan.0 n plan.1 Infeasible input out EndsInfeasible (one_site bytes plan.0 s (plan.2.read bytes b) a) plan.2 plan.3 plan.4 plan.5 refl
-promise_of n bytes s input out note SiteRefused h b a few r =
-    absurd (⊎_elim (λ fault. no_plan_fault bytes s h.0 h.1 a fault) (λ unbuilt. too_many s unbuilt.0 4 (one_site bytes unbuilt.0 s unbuilt.1 a) few unbuilt.2.many_points) (h.2 bytes b))
-promise_of n bytes s input out note ReadFault h b a few r = absurd (r.input_held h.0)
-promise_of n bytes s input out note WriteFault h b a few r = absurd (⊎_elim (λ of_out. r.out_held of_out.0) (λ of_note. r.note_held of_note.1.2.0) h)
-promise_of n bytes s input out note Memory h b a few r = absurd (r.memory_held refl)
-promise_of n bytes s input out note Usage h b a few r = absurd h
-promise_of n bytes s input out note EndsInGap h b a few r = absurd h
-promise_of n bytes s input out note EndsOpen h b a few r = absurd h
-promise_of n bytes s input out note DocumentRefused h b a few r = absurd h
+promise_of n bytes s input out note Done h b a r = printed bytes s n (Optimal h.0.0) input out Done b a h.0.1 (h.0.0, refl)
+promise_of n bytes s input out note EndsInGap h b a r = printed bytes s n (Gap h.0.0 h.0.1) input out EndsInGap b a h.0.2 (h.0.0, h.0.1, refl)
+promise_of n bytes s input out note EndsOpen h b a r = printed bytes s n (Partial h.0.0 h.0.1) input out EndsOpen b a h.0.2 (h.0.0, h.0.1, refl)
+promise_of n bytes s input out note EndsInfeasible h b a r = printed bytes s n Infeasible input out EndsInfeasible b a h.0 refl
+promise_of n bytes s input out note SiteRefused h b a r = absurd (no_plan_fault bytes s h.0 h.1 a (h.2 bytes b))
+promise_of n bytes s input out note ReadFault h b a r = absurd (r.input_held h.0)
+promise_of n bytes s input out note WriteFault h b a r = absurd (⊎_elim (λ of_out. r.out_held of_out.0) (λ of_note. r.note_held of_note.1.2.0) h)
+promise_of n bytes s input out note Memory h b a r = absurd (r.memory_held refl)
+promise_of n bytes s input out note Usage h b a r = absurd h
+promise_of n bytes s input out note DocumentRefused h b a r = absurd h
 
 -- ---- check
 said : (bytes : List ℕ) (s t : Site) (claim other : Claim) (out : Stream) → t ≡ s → other ≡ claim → Got out (yes_line other) → Says t other → (Done ≡ Done) × Got out (yes_line claim) × Says s claim
@@ -144,17 +135,17 @@ one_of a b e = cc
 same_budget : (m n : ℕ) → m ≤ 50000 → n ≤ 50000 → codes "plan" ∷ decimal m ∷ [] ≡ codes "plan" ∷ decimal n ∷ [] → m ≡ n
 same_budget m n h k e = decimal_injective m n (omega arith) (omega arith) (second_of (codes "plan") (decimal m) (codes "plan") (decimal n) e)
 
--- the words of a command that is built are its words
-pub built_of : (words : List (List ℕ)) (command : Command) → IsBuiltWords words command → IsBuiltCommand command
-built_of words (Plan m lanes) b = (b.0, b.1, b.2)
-built_of words Check b = tt
-built_of words SiteCommand b = tt
-built_of words Migrate b = b
-built_of words Judge b = tt
-built_of words Report b = tt
-built_of words Rings b = b
-built_of words Carry b = b
-built_of words (Drill k turbines m) b = b
+-- the words ask for a command that is known
+pub known_of : (words : List (List ℕ)) (command : Command) → AsksFor words command → IsKnownCommand command
+known_of words (Plan m lanes) b = (b.0, b.1)
+known_of words Check b = tt
+known_of words SiteCommand b = tt
+known_of words Migrate b = b
+known_of words Judge b = tt
+known_of words Report b = tt
+known_of words Rings b = b
+known_of words Carry b = b
+known_of words (Drill k turbines m) b = b
 
 abbrev first_of : List (List ℕ) → ℕ
 first_of [] = 0
@@ -173,8 +164,8 @@ letter Rings = 0
 letter Carry = 0
 letter (Drill k turbines m) = 0
 
-first_is : (words : List (List ℕ)) (command : Command) → IsBuiltWords words command → first_of words ≡ letter command
-first_is words (Plan m lanes) b = ap first_of b.3
+first_is : (words : List (List ℕ)) (command : Command) → AsksFor words command → first_of words ≡ letter command
+first_is words (Plan m lanes) b = ap first_of b.2
 first_is words Check b = ap first_of b
 first_is words SiteCommand b = ap first_of b
 first_is words Migrate b = absurd b
@@ -185,11 +176,11 @@ first_is words Carry b = absurd b
 first_is words (Drill k turbines m) b = absurd b
 
 -- words are at most one command, so a command ends as the words say
-pub ends_as : (words : List (List ℕ)) (command other : Command) (input out note : Stream) (ending : Ending) → IsBuiltWords words command → IsBuiltWords words other
+pub ends_as : (words : List (List ℕ)) (command other : Command) (input out note : Stream) (ending : Ending) → AsksFor words command → AsksFor words other
     → CommandEnds command input out note ending → CommandEnds other input out note ending
 ends_as words (Plan m lanes) (Plan n others) input out note ending b e h =
     let P : ℕ → Type 0 = λ k. PlanEnds k input out note ending in
-    subst P (same_budget m n b.1 e.1 (sym b.3 ∙ e.3)) h
+    subst P (same_budget m n b.0.1 e.0.1 (sym b.2 ∙ e.2)) h
 ends_as words (Plan m lanes) Check input out note ending b e h = absurd (omega (arith, first_is words (Plan m lanes) b, first_is words Check e))
 ends_as words (Plan m lanes) SiteCommand input out note ending b e h = absurd (omega (arith, first_is words (Plan m lanes) b, first_is words SiteCommand e))
 ends_as words (Plan m lanes) Judge input out note ending b e h = absurd (omega (arith, first_is words (Plan m lanes) b, first_is words Judge e))
@@ -239,7 +230,7 @@ ends_as words Rings other input out note ending b e h = absurd b
 ends_as words Carry other input out note ending b e h = absurd b
 ends_as words (Drill k turbines m) other input out note ending b e h = absurd b
 
--- a command that is built never ends as words that are none
+-- a command that is known never ends as words that are none
 pub not_usage : (command : Command) (input out note : Stream) → CommandEnds command input out note Usage → ⊥
 not_usage (Plan m lanes) input out note h = h
 not_usage Check input out note h = h

@@ -1,10 +1,8 @@
 -- Sites with layouts that are read, and refusals behind a site.
-use Rattle.std.proofs.Common.{◌≡◌, ℕ, zero, suc, ◌+◌, ◌≤◌, ◌<◌, List, [], ◌∷◌, ◌++◌, length, false, true, Option, Some, None, inl, ⊎_elim, refl, sym, ap, ◌∙◌, subst, arith}
-use Rattle.std.specs.Prelude.{◌-◌, ◌^◌, ◌≤ℤ◌, ◌⊎◌, ℤ, pos, negsuc, nat_abs, IsTrue, All, min, Bool, Result, Err}
+use Rattle.std.proofs.Common.{◌≡◌, ℕ, zero, suc, ◌+◌, ◌≤◌, ◌<◌, List, [], ◌∷◌, length, Option, Some, inl, ⊎_elim, refl, sym, ap, ◌∙◌, subst, arith}
+use Rattle.std.specs.Prelude.{◌-◌, ◌^◌, ◌≤ℤ◌, ℤ, pos, negsuc, nat_abs, IsTrue, Bool, Result, Err}
 use Rattle.std.proofs.lemmas.Bool.{false≢true, cases_lt}
-use Rattle.std.proofs.lemmas.Option.{none-some}
 use Rattle.std.proofs.lemmas.Int.{ints}
-use Rattle.cable_definitions.specs.declared.cable.Cable.{Cable}
 use Rattle.cable_definitions.specs.declared.cable.Arc.{Arc}
 use Rattle.cable_definitions.specs.declared.claim.Cause.TheVariants.{Limit}
 use Rattle.cable_definitions.specs.Site.{Site, IsValid}
@@ -12,8 +10,7 @@ use Rattle.cable_definitions.specs.Arcs.{AreArcs}
 use Rattle.cable_definitions.specs.Text.{site_lines, line_count, Whole}
 use Rattle.cable_definitions.specs.declared.site.SiteCode.{SiteCode}
 use Rattle.cable_definitions.specs.Items.{Field, within, IsLineFault}
-use Rattle.cable_definitions.specs.Document.{IsSiteAtFront}
-use Rattle.cable_definitions.specs.Refusal.{DocLine, BudgetLine, RowLine, WorkLine, WeightLine, ActLine, LayoutLine, CableLine, ClaimLine, EndLine, Phase, AtJudged, AtAnyCables, Reader, reader_at, is_allowed, after_cable, after_layout, line_fields, IsReadable, IsWithinLimits, ReadsLines, IsRefusedAfter, IsRefusedBehind, IsJudged}
+use Rattle.cable_definitions.specs.Refusal.{DocLine, BudgetLine, RowLine, WorkLine, WeightLine, ActLine, LayoutLine, CableLine, ClaimLine, EndLine, Phase, AtJudged, AtAnyCables, Reader, reader_at, is_allowed, after_cable, IsReadable, ReadsLines, IsRefusedAfter, IsRefusedBehind}
 use Rattle.branch_tree.specs.declared.work.Refusal.{Refusal}
 use Rattle.cable_text.specs.Stream.{Rose, Gives}
 use Rattle.cable_text.proofs.Writing.{Rose-after}

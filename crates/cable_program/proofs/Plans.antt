@@ -12,8 +12,11 @@ use Rattle.cable_definitions.specs.declared.claim.Claim.TheVariants.{Optimal, Ga
 use Rattle.cable_definitions.specs.Site.{Site, IsValid}
 use Rattle.cable_definitions.specs.Arcs.{AreArcs, cost_of}
 use Rattle.cable_definitions.specs.Walk.{load}
+use Rattle.cable_definitions.specs.declared.cable.Rule.TheVariants.{Range}
 use Rattle.cable_definitions.specs.Layout.{IsLegal, cost}
-use Rattle.cable_definitions.specs.Tree.{Node, Item, Kept, is_open_leaf, IsAccepted, LayoutAgrees, nothing_kept}
+use Rattle.cable_definitions.specs.Part.{IsGrown}
+use Rattle.cable_definitions.specs.Budget.{IsNearest}
+use Rattle.cable_definitions.specs.Tree.{Node, Item, Kept, is_open_leaf, IsLeastBound, IsAccepted, LayoutAgrees, nothing_kept}
 use Rattle.cable_definitions.specs.Text.{line, site_lines, item_lines, cable_line, claim_line, document_text}
 use Rattle.cable_definitions.specs.Document.{IsClaimInRange}
 use Rattle.cable_definitions.specs.Plan.{IsPlanned}
@@ -22,10 +25,11 @@ use Rattle.cable_text.proofs.Writing.{Appends-then, AppendsPrefix-front, Appends
 use Rattle.layout_meaning.proofs.Costing.{cost_small, load_small_at}
 use Rattle.document_laws.proofs.Counting.{cables-most}
 use Rattle.proof_laws.proofs.Lists.{any_at}
+use Rattle.proof_laws.proofs.FullLemma.{within-turbine}
 use Rattle.proof_laws.proofs.Sound.{sound-accepted, says-sound}
 use Rattle.proof_lines.specs.Written.{IsCableOf, IsClaimOf, layout_text}
-use Rattle.tree_search.specs.Found.{IsFinal, FindsPlan, WritesPart}
-use Rattle.cable_program.specs.Ends.{Stream, IsRead, IsAboveNearest, PrintsPlan, PrintsPart}
+use Rattle.tree_search.specs.Found.{IsOutcome, FindsPlan, WritesPart}
+use Rattle.cable_program.specs.Ends.{Stream, IsRead, IsAboveNearest, IsGoodPlan, PrintsPlan, PrintsPart}
 
 -- ---- parts of the text
 -- what stands before the items
@@ -53,28 +57,35 @@ cables_of_legal s cables legal k d h =
     let at = slice_get-get_or cables k d h in
     record { from = (legal.range k).from (get_or cables k d) at; to = (legal.range k).to (get_or cables k d) at }
 
+-- so do those of a grown part
+cables_of_grown : (s : Site) (cables : List Cable) → IsGrown s cables → All (IsCableOf s) cables
+cables_of_grown s cables grown k d h =
+    let at = slice_get-get_or cables k d h in
+    let range = grown Range k 0 (λ e. cc) in
+    record { from = range.from (get_or cables k d) at; to = range.to (get_or cables k d) at }
+
 no_cables : (s : Site) (cables : List Cable) → cables ≡ [] → All (IsCableOf s) cables
 no_cables s cables e = let P : List Cable → Type 0 = λ xs. All (IsCableOf s) xs in subst P (sym e) (λ k d h. absurd (omega (arith, h)))
 
-cables_agree : (s : Site) (cables : List Cable) (claim : Claim) → LayoutAgrees s cables claim → IsFinal claim → All (IsCableOf s) cables
-cables_agree s cables (Optimal cost) a f = cables_of_legal s cables a.0
-cables_agree s cables (Gap cost bound) a f = absurd f
-cables_agree s cables (Partial bound stuck) a f = absurd f
-cables_agree s cables Infeasible a f = no_cables s cables a
+cables_agree : (s : Site) (cables : List Cable) (claim : Claim) → LayoutAgrees s cables claim → All (IsCableOf s) cables
+cables_agree s cables (Optimal cost) a = cables_of_legal s cables a.0
+cables_agree s cables (Gap cost bound) a = cables_of_legal s cables a.0
+cables_agree s cables (Partial bound stuck) a = cables_of_grown s cables a.grown
+cables_agree s cables Infeasible a = no_cables s cables a
 
 -- the cables that were found have their ends among the points
 pub cables_found : (s : Site) (arcs : List Arc) (n : ℕ) (before after : Option (List ℕ)) (cables : List Cable) (claim : Claim) → FindsPlan s arcs n before after cables claim → All (IsCableOf s) cables
-cables_found s arcs n before after cables claim found = cables_agree s cables claim found.agrees.0 found.final
+cables_found s arcs n before after cables claim found = cables_agree s cables claim found.outcome.agrees.0
 
-final_named : (s : Site) (claim : Claim) → IsFinal claim → IsClaimOf s claim
-final_named s (Optimal cost) f = tt
-final_named s (Gap cost bound) f = absurd f
-final_named s (Partial bound stuck) f = absurd f
-final_named s Infeasible f = tt
+claim_agrees : (s : Site) (cables : List Cable) (claim : Claim) → LayoutAgrees s cables claim → IsClaimOf s claim
+claim_agrees s cables (Optimal cost) a = tt
+claim_agrees s cables (Gap cost bound) a = tt
+claim_agrees s cables (Partial bound stuck) a = within-turbine s stuck a.turbine_is
+claim_agrees s cables Infeasible a = tt
 
--- the claim that was found names no point
+-- a turbine that the claim names is a point
 pub claim_found : (s : Site) (arcs : List Arc) (n : ℕ) (before after : Option (List ℕ)) (cables : List Cable) (claim : Claim) → FindsPlan s arcs n before after cables claim → IsClaimOf s claim
-claim_found s arcs n before after cables claim found = final_named s claim found.final
+claim_found s arcs n before after cables claim found = claim_agrees s cables claim found.outcome.agrees.0
 
 -- ---- costs
 -- a legal layout whose cables ascend costs less than 2 ^ 63
@@ -87,11 +98,15 @@ cost_in_range s cables valid order legal =
     let points = valid.points_count in
     omega (arith, most, each, points)
 
-claim_in_range : (s : Site) (cables : List Cable) (claim : Claim) → IsValid s → AllPairs (λ c d. c.from < d.from) cables → LayoutAgrees s cables claim → IsFinal claim → IsClaimInRange claim
-claim_in_range s cables (Optimal best) valid order a f = subst (λ (c : ℕ). c < 2 ^ 63) a.1 (cost_in_range s cables valid order a.0)
-claim_in_range s cables (Gap best bound) valid order a f = absurd f
-claim_in_range s cables (Partial bound stuck) valid order a f = absurd f
-claim_in_range s cables Infeasible valid order a f = tt
+claim_in_range : (s : Site) (arcs : List Arc) (n : ℕ) (kept : Kept) (cables : List Cable) (claim : Claim) → IsValid s → IsOutcome s arcs n kept cables claim → IsClaimInRange claim
+claim_in_range s arcs n kept cables (Optimal best) valid o = subst (λ (c : ℕ). c < 2 ^ 63) o.agrees.0.1 (cost_in_range s cables valid o.in_order o.agrees.0.0)
+claim_in_range s arcs n kept cables (Gap best bound) valid o =
+    let small = cost_in_range s cables valid o.in_order o.agrees.0.0 in
+    let same = o.agrees.0.1 in
+    let below = o.agrees.1.1 in
+    (omega (arith, small, same), omega (arith, small, same, below))
+claim_in_range s arcs n kept cables (Partial bound stuck) valid o = o.open_small bound stuck refl
+claim_in_range s arcs n kept cables Infeasible valid o = tt
 
 -- ---- what was printed
 -- a first part of the text of a plan that was begun
@@ -128,15 +143,19 @@ tail_part input out middle later s n arcs cables claim read are first found part
     (AppendsPrefix-then out.before later out.after (head_text s n ++ concat (map item_lines found.items)) (tail_text s cables claim)
     (Appends-then out.before middle later (head_text s n) (concat (map item_lines found.items)) first found.written) part)
 
--- the bound that was found is at least the sum of the least costs out of the turbines
-above_nearest : (s : Site) (arcs : List Arc) (n : ℕ) (before after : Option (List ℕ)) (cables : List Cable) (claim : Claim) → FindsPlan s arcs n before after cables claim → IsAboveNearest s claim
-above_nearest s arcs n before after cables (Optimal best) found = λ nearest total.
-    let leaf = any_at (λ (v : Node). IsTrue (is_open_leaf v.status) × (v.bound ≡ best)) found.kept.nodes found.agrees.1.reached in
+-- the least bound that was found is at least the sum of the least costs out of the turbines
+floor_reached : (s : Site) (arcs : List Arc) (n : ℕ) (before after : Option (List ℕ)) (cables : List Cable) (claim : Claim) (bound : ℕ) → (found : FindsPlan s arcs n before after cables claim)
+    → IsLeastBound found.kept bound → (nearest : ℕ) → IsNearest s nearest → nearest ≤ bound
+floor_reached s arcs n before after cables claim bound found least nearest total =
+    let leaf = any_at (λ (v : Node). IsTrue (is_open_leaf v.status) × (v.bound ≡ bound)) found.kept.nodes least.reached in
     let low = found.floor nearest total (suc leaf.0) leaf.1 leaf.2 in
-    let same : leaf.1.bound ≡ best = leaf.3.1 in
+    let same : leaf.1.bound ≡ bound = leaf.3.1 in
     omega (arith, low, same)
-above_nearest s arcs n before after cables (Gap best bound) found = absurd found.final
-above_nearest s arcs n before after cables (Partial bound stuck) found = absurd found.final
+
+above_nearest : (s : Site) (arcs : List Arc) (n : ℕ) (before after : Option (List ℕ)) (cables : List Cable) (claim : Claim) → FindsPlan s arcs n before after cables claim → IsAboveNearest s claim
+above_nearest s arcs n before after cables (Optimal best) found = floor_reached s arcs n before after cables (Optimal best) best found found.outcome.agrees.1
+above_nearest s arcs n before after cables (Gap best bound) found = floor_reached s arcs n before after cables (Gap best bound) bound found found.outcome.agrees.1.0
+above_nearest s arcs n before after cables (Partial bound stuck) found = floor_reached s arcs n before after cables (Partial bound stuck) bound found found.outcome.agrees.1.0
 above_nearest s arcs n before after cables Infeasible found = tt
 
 -- the whole text
@@ -155,15 +174,16 @@ printed_whole input out middle later s n arcs cables claim least most read are f
         are_arcs = are;
         is_budget = (least, most);
         text = refl;
-        in_order = found.in_order;
+        in_order = found.outcome.in_order;
         accepted = found.accepted;
         built = found.built;
-        in_range = claim_in_range s cables claim read.valid found.in_order found.agrees.0 found.final;
-        agrees = found.agrees;
+        in_range = claim_in_range s arcs n found.kept cables claim read.valid found.outcome;
+        agrees = found.outcome.agrees;
       };
       budget_is = refl;
-      says = says-sound s arcs n found.kept cables claim (sound-accepted s arcs n found.items found.kept read.valid are found.accepted) found.agrees;
+      says = says-sound s arcs n found.kept cables claim (sound-accepted s arcs n found.items found.kept read.valid are found.accepted) found.outcome.agrees;
     } in
     let all = Appends-then out.before later out.after (head_text s n ++ concat (map item_lines found.items)) (tail_text s cables claim)
     (Appends-then out.before middle later (head_text s n) (concat (map item_lines found.items)) first found.written) last in
-    (s, text, read, planned, above_nearest s arcs n middle later cables claim found, subst (λ (bytes : List ℕ). Appends out.before out.after bytes) (sym (document_parts s n found.items cables claim)) all)
+    let good : IsGoodPlan s n text claim = record { planned = planned; above_nearest = above_nearest s arcs n middle later cables claim found; outcome = found.outcome } in
+    (s, text, read, good, subst (λ (bytes : List ℕ). Appends out.before out.after bytes) (sym (document_parts s n found.items cables claim)) all)

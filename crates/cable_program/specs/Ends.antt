@@ -17,11 +17,12 @@ use Rattle.cable_definitions.specs.Items.{IsLineFault}
 use Rattle.cable_definitions.specs.Document.{Yes}
 use Rattle.cable_definitions.specs.Refusal.{IsRefused, IsJudged, IsJudgeRefused}
 use Rattle.cable_definitions.specs.Report.{report_text}
-use Rattle.cable_definitions.specs.Built.{IsBuiltSite, IsUnbuiltFault, IsBuiltWords}
 use Rattle.cable_definitions.specs.Plan.{IsPlanned, IsPlanBegun}
 use Rattle.cable_definitions.specs.Answers.{usage_note, site_note, document_note, read_fault_note, write_fault_note, memory_note, yes_line, legal_line, broken_line}
 use Rattle.cable_text.specs.Stream.{Rose, IsAtEnd, Appends, AppendsPrefix}
 use Rattle.site_json.specs.Bytes.{IsSiteOf, IsPlanFault, IsFrontSite, IsFrontFault}
+use Rattle.tree_search.specs.Found.{IsOutcome}
+use Rattle.cable_program.specs.Words.{AsksFor}
 use Rattle.cable_program.specs.declared.ending.Ending.{Ending}
 use Rattle.cable_program.specs.declared.ending.Ending.TheVariants.{Done, Usage, SiteRefused, Gap as EndsInGap, Partial as EndsOpen, Infeasible as EndsInfeasible, DocumentRefused, ReadFault, WriteFault, Memory}
 
@@ -79,9 +80,9 @@ abbrev pub NoteFailed : Stream → List ℕ → Type 0
 NoteFailed s text = Faulted s × ((middle : Option (List ℕ)) × AppendsPrefix s.before middle text × AppendsPrefix middle s.after write_fault_note)
 
 -- ---- words that are no command
--- the words are no command that is built
+-- the words ask for no command that the program knows
 abbrev pub IsNoCommand : List (List ℕ) → Type 0
-IsNoCommand words = (command : Command) → ¬ (IsBuiltWords words command)
+IsNoCommand words = (command : Command) → ¬ (AsksFor words command)
 
 -- how a call ends whose words are no command
 abbrev pub UsageEnds : Stream → Stream → Stream → Ending → Type 0
@@ -90,10 +91,9 @@ UsageEnds input out note WriteFault = Untouched input × Untouched out × NoteFa
 UsageEnds input out note ending = ⊥
 
 -- ---- plan
--- What was read is this valid site, which is planned so far; where the input tells its bytes they are that site, and the input was read to its end.
+-- What was read is this valid site; where the input tells its bytes they are that site, and the input was read to its end.
 pub record IsRead (input : Stream) (s : Site) : Type 0 where
   pub valid : IsValid s
-  pub built : IsBuiltSite s
   pub read : (bytes : List ℕ) → Told input bytes → IsSiteOf bytes s
   pub whole : IsAtEnd input.after
 
@@ -104,24 +104,29 @@ IsAboveNearest s (Gap best bound) = (nearest : ℕ) → IsNearest s nearest → 
 IsAboveNearest s (Partial bound stuck) = (nearest : ℕ) → IsNearest s nearest → nearest ≤ bound
 IsAboveNearest s Infeasible = Unit {0}
 
+-- What is so of a plan that was printed: it is an accepted document of the site and the budget, whose claim is true; its bound is at least the sum
+-- of the least costs out of the turbines; and its layout and claim are the outcome of a search that made its items.
+pub record IsGoodPlan (s : Site) (n : ℕ) (printed : List ℕ) (claim : Claim) : Type 0 where
+  pub planned : IsPlanned s n printed claim
+  pub above_nearest : IsAboveNearest s claim
+  pub outcome : IsOutcome s planned.document.arcs n planned.document.kept planned.document.cables claim
+
 -- a plan of the site that was read was printed with this claim
 abbrev pub PrintsPlan : ℕ → Stream → Stream → Claim → Type 0
-PrintsPlan n input out claim = (s : Site) × (printed : List ℕ) × IsRead input s × IsPlanned s n printed claim × IsAboveNearest s claim × Got out printed
+PrintsPlan n input out claim = (s : Site) × (printed : List ℕ) × IsRead input s × IsGoodPlan s n printed claim × Got out printed
 
 -- nothing was printed, or the first part of the text of a plan that was begun
 abbrev pub PrintsPart : ℕ → Stream → Stream → Type 0
 PrintsPart n input out = Untouched out ⊎ ((s : Site) × (text : List ℕ) × IsRead input s × IsPlanBegun s n text × GotPart out text)
 
--- why the bytes are not planned: the fault of bytes that are no site, or the first item of a site that isn't built
-abbrev pub IsNotPlanned : List ℕ → SiteCode → ℕ → Type 0
-IsNotPlanned bytes code place = IsPlanFault bytes code place ⊎ ((s : Site) × IsSiteOf bytes s × IsUnbuiltFault s code place)
-
--- how `plan n` ends: with the cheapest legal layout or the proof that there is none, with a refusal of what is no site or none that is planned so
--- far, with a fault of a stream, or for want of memory
+-- how `plan n` ends: with the cheapest legal layout, with a legal layout and a bound below its cost, with a part of a layout and a bound, with the
+-- proof that there is no layout, with a refusal of what is no site, with a fault of a stream, or for want of memory
 abbrev pub PlanEnds : ℕ → Stream → Stream → Stream → Ending → Type 0
 PlanEnds n input out note Done = ((best : ℕ) × PrintsPlan n input out (Optimal best)) × Untouched note
+PlanEnds n input out note EndsInGap = ((best : ℕ) × (bound : ℕ) × PrintsPlan n input out (Gap best bound)) × Untouched note
+PlanEnds n input out note EndsOpen = ((bound : ℕ) × (stuck : ℕ) × PrintsPlan n input out (Partial bound stuck)) × Untouched note
 PlanEnds n input out note EndsInfeasible = PrintsPlan n input out Infeasible × Untouched note
-PlanEnds n input out note SiteRefused = (code : SiteCode) × (place : ℕ) × ((bytes : List ℕ) → Told input bytes → IsNotPlanned bytes code place) × Untouched out × Got note (site_note code place)
+PlanEnds n input out note SiteRefused = (code : SiteCode) × (place : ℕ) × ((bytes : List ℕ) → Told input bytes → IsPlanFault bytes code place) × Untouched out × Got note (site_note code place)
 PlanEnds n input out note ReadFault = Faulted input × Untouched out × Noted note read_fault_note
 PlanEnds n input out note WriteFault =
     (Faulted out × PrintsPart n input out × Noted note write_fault_note)
@@ -215,7 +220,7 @@ ReportEnds input out note Memory = Untouched out × Noted note memory_note
 ReportEnds input out note ending = ⊥
 
 -- ---- all commands
--- how a command ends that is built
+-- how a command ends that the program knows
 abbrev pub CommandEnds : Command → Stream → Stream → Stream → Ending → Type 0
 CommandEnds (Plan n lanes) input out note ending = PlanEnds n input out note ending
 CommandEnds Check input out note ending = CheckEnds input out note ending
@@ -227,6 +232,8 @@ CommandEnds command input out note ending = ⊥
 -- the claim that an ending stands for
 abbrev pub EndsWith : Ending → Claim → Type 0
 EndsWith Done claim = (best : ℕ) × (claim ≡ Optimal best)
+EndsWith EndsInGap claim = (best : ℕ) × (bound : ℕ) × (claim ≡ Gap best bound)
+EndsWith EndsOpen claim = (bound : ℕ) × (stuck : ℕ) × (claim ≡ Partial bound stuck)
 EndsWith EndsInfeasible claim = claim ≡ Infeasible
 EndsWith ending claim = ⊥
 

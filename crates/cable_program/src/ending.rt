@@ -7,11 +7,11 @@ pub enum Ending {
     Done,
     /// The words are no command.
     Usage,
-    /// The input is no site, or none that is planned so far.
+    /// The input is no site.
     SiteRefused,
-    /// A legal layout is known, and the bound is below its cost.
+    /// A legal layout was found, and the bound is below its cost.
     Gap,
-    /// No legal layout is known, and none is excluded.
+    /// No legal layout was found, and none is excluded.
     Partial,
     /// No legal layout exists.
     Infeasible,

@@ -10,12 +10,12 @@ mod judge;
 mod layout;
 mod notes;
 mod plan;
-mod planned;
 mod report;
 mod run;
 mod site;
 #[cfg(test)]
 mod tests;
+mod whole;
 mod words;
 
 use cable_text::{StdSink, StdSource};

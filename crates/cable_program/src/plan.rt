@@ -5,12 +5,11 @@ ghost use Rattle.cable_text.specs.Stream.{Writes};
 ghost use Rattle.proof_lines.specs.Written.{IsCableOf, IsClaimOf, layout_text};
 ghost use Rattle.cable_program.specs.Ends.{stream, PlanEnds, EndsWith};
 ghost use Rattle.cable_program.specs.PlanSteps.{PlanGives};
-ghost use Rattle.tree_search.specs.Found.{IsFinal};
 
 use crate::ending::Ending;
 use crate::fault::Fault;
 use crate::notes::note_fault;
-use crate::planned::read_planned;
+use crate::whole::read_site;
 use cable_definitions::claim::Claim;
 use cable_text::{Failed, Sink, Source};
 use candidate_cables::Arcs;
@@ -28,7 +27,7 @@ pub(crate) fn plan<S: Source, O: Sink, E: Sink>(
     out: &mut O,
     note: &mut E,
 ) -> Ending
-    requires enough { 8191 ≤ budget }
+    requires some { 1 ≤ budget }
     requires most { budget ≤ 50000 }
     ensures { PlanEnds budget
         (stream (S.left input.old) (S.left input.new) (S.faults input.old) (S.faults input.new))
@@ -49,14 +48,14 @@ fn print_plan<S: Source, O: Sink>(
     input: &mut S,
     out: &mut O,
 ) -> Result<Claim, Fault>
-    requires enough { 8191 ≤ budget }
+    requires some { 1 ≤ budget }
     requires most { budget ≤ 50000 }
     ensures { PlanGives budget
         (stream (S.left input.old) (S.left input.new) (S.faults input.old) (S.faults input.new))
         (stream (O.taken out.old) (O.taken out.new) (O.faults out.old) (O.faults out.new))
         result }
 {
-    let site = match read_planned(alloc, input) {
+    let site = match read_site(alloc, input) {
         Ok(site) => site,
         Err(fault) => return Err(fault),
     };
@@ -101,12 +100,12 @@ fn write_tail<O: Sink>(site: &Site, plan: &Plan, out: &mut O) -> Result<(), Fail
 
 /// How a plan ends that was printed with this claim.
 fn ending_of(claim: Claim) -> Ending
-    requires { IsFinal claim }
     ensures { EndsWith result claim }
 {
     match claim {
         Claim::Optimal(_) => Ending::Done,
+        Claim::Gap { .. } => Ending::Gap,
+        Claim::Partial { .. } => Ending::Partial,
         Claim::Infeasible => Ending::Infeasible,
-        _ => unreachable!(),
     }
 }

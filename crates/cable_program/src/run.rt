@@ -8,12 +8,10 @@ ghost use Rattle.cable_definitions.specs.Text.{site_lines};
 ghost use Rattle.cable_definitions.specs.Document.{Yes};
 ghost use Rattle.cable_definitions.specs.Refusal.{IsJudged};
 ghost use Rattle.cable_definitions.specs.Answers.{yes_line};
-ghost use Rattle.cable_definitions.specs.Built.{IsBuiltSite, IsBuiltWords, IsBuiltCommand};
-ghost use Rattle.cable_definitions.specs.Plan.{IsPlanned};
 ghost use Rattle.site_json.specs.Bytes.{IsSiteOf, IsFrontSite};
 ghost use Rattle.cable_text.specs.Stream.{IsAtEnd, Appends};
-ghost use Rattle.cable_program.specs.Words.{texts};
-ghost use Rattle.cable_program.specs.Ends.{stream, IsAboveNearest, IsNoCommand, UsageEnds, CommandEnds, EndsWith, IsJudgement, IsReport, RanWell};
+ghost use Rattle.cable_program.specs.Words.{texts, AsksFor, IsKnownCommand};
+ghost use Rattle.cable_program.specs.Ends.{stream, IsGoodPlan, IsNoCommand, UsageEnds, CommandEnds, EndsWith, IsJudgement, IsReport, RanWell};
 
 use crate::check::check;
 use crate::ending::Ending;
@@ -30,9 +28,11 @@ use std::alloc::Global;
 /// Does what the words ask for: reads `input`, writes the answer to `out`, and notes a refusal or a
 /// fault to `note`, one line.
 ///
-/// - `plan N` reads a site, in lines or in JSON, to the end of the input, and prints a document: the
-///   cheapest legal layout with its cost, or that there is none, and a proof of that (`Done`,
-///   `Infeasible`; `SiteRefused` exactly where the input is no site that is planned so far).
+/// - `plan N` reads a site, in lines or in JSON, to the end of the input, and prints a document, with a
+///   proof that is made in at most N works: the cheapest legal layout with its cost, or that there is
+///   none (`Done`, `Infeasible`); or, where N works didn't suffice, the best layout that was found, and a
+///   bound below its cost (`Gap`), or a part of a layout, a turbine that can't be joined to it, and a
+///   bound (`Partial`). `SiteRefused` exactly where the input is no site.
 /// - `check` reads a document to its end, and says yes exactly where it is accepted, which alone implies
 ///   its claim (`Done`; else `DocumentRefused`, with the first line at which a cause holds).
 /// - `site` reads a site, in lines or in JSON, and writes its lines (`Done`, `SiteRefused`).
@@ -50,20 +50,21 @@ pub fn run<S: Source, O: Sink, E: Sink>(
     out: &mut O,
     note: &mut E,
 ) -> Ending
-    // For every site that is planned so far and every budget, `plan` prints a document that `check` accepts:
-    // its layout is legal at its cost, no legal layout costs less, and infeasible is printed only where
-    // there is no legal layout; its bound is at least the sum of the least costs out of the turbines; unless
-    // a stream failed or memory ran out.
-    ensures headline { (n : ℕ) (bytes : List ℕ) (s : Site) → IsBuiltWords (texts words.now) (AnyCommand.Plan n 1) → S.left input.old ≡ Some bytes
-        → IsSiteOf bytes s → IsBuiltSite s
+    // For every site and every budget, `plan` prints a document that `check` accepts: its layout is legal at
+    // its cost, settled, and costs no more than the straight layout; no legal layout costs less than its
+    // bound, which is at least the sum of the least costs out of the turbines; infeasible is printed only
+    // where there is no legal layout; and a gap or a part only where the budget was used up and wasn't
+    // enough; unless a stream failed or memory ran out.
+    ensures headline { (n : ℕ) (bytes : List ℕ) (s : Site) → AsksFor (texts words.now) (AnyCommand.Plan n 1) → S.left input.old ≡ Some bytes
+        → IsSiteOf bytes s
         → RanWell (stream (S.left input.old) (S.left input.new) (S.faults input.old) (S.faults input.new))
         (stream (O.taken out.old) (O.taken out.new) (O.faults out.old) (O.faults out.new))
         (stream (E.taken note.old) (E.taken note.new) (E.faults note.old) (E.faults note.new)) result
-        → (printed : List ℕ) × (claim : Claim) × IsPlanned s n printed claim × IsAboveNearest s claim × Appends (O.taken out.old) (O.taken out.new) printed
+        → (printed : List ℕ) × (claim : Claim) × IsGoodPlan s n printed claim × Appends (O.taken out.old) (O.taken out.new) printed
         × EndsWith result claim × IsAtEnd (S.left input.new) }
 
     // `check` says yes to each document that is accepted, and then its claim is true.
-    ensures yes { (bytes : List ℕ) (s : Site) (claim : Claim) → IsBuiltWords (texts words.now) AnyCommand.Check → S.left input.old ≡ Some bytes
+    ensures yes { (bytes : List ℕ) (s : Site) (claim : Claim) → AsksFor (texts words.now) AnyCommand.Check → S.left input.old ≡ Some bytes
         → Yes bytes s claim
         → RanWell (stream (S.left input.old) (S.left input.new) (S.faults input.old) (S.faults input.new))
         (stream (O.taken out.old) (O.taken out.new) (O.faults out.old) (O.faults out.new))
@@ -71,7 +72,7 @@ pub fn run<S: Source, O: Sink, E: Sink>(
         → (result ≡ Ending.Done) × Appends (O.taken out.old) (O.taken out.new) (yes_line claim) × Says s claim }
 
     // `site` writes the lines of each site that stands at the front of the input.
-    ensures lines { (bytes : List ℕ) (s : Site) → IsBuiltWords (texts words.now) AnyCommand.Site → S.left input.old ≡ Some bytes
+    ensures lines { (bytes : List ℕ) (s : Site) → AsksFor (texts words.now) AnyCommand.Site → S.left input.old ≡ Some bytes
         → IsFrontSite bytes s
         → RanWell (stream (S.left input.old) (S.left input.new) (S.faults input.old) (S.faults input.new))
         (stream (O.taken out.old) (O.taken out.new) (O.faults out.old) (O.faults out.new))
@@ -79,7 +80,7 @@ pub fn run<S: Source, O: Sink, E: Sink>(
         → (result ≡ Ending.Done) × Appends (O.taken out.old) (O.taken out.new) (site_lines s) }
 
     // `judge` answers on each layout.
-    ensures judgement { (bytes : List ℕ) (s : Site) (cables : List Cable) → IsBuiltWords (texts words.now) AnyCommand.Judge → S.left input.old ≡ Some bytes
+    ensures judgement { (bytes : List ℕ) (s : Site) (cables : List Cable) → AsksFor (texts words.now) AnyCommand.Judge → S.left input.old ≡ Some bytes
         → IsJudged bytes s cables
         → RanWell (stream (S.left input.old) (S.left input.new) (S.faults input.old) (S.faults input.new))
         (stream (O.taken out.old) (O.taken out.new) (O.faults out.old) (O.faults out.new))
@@ -87,7 +88,7 @@ pub fn run<S: Source, O: Sink, E: Sink>(
         → (result ≡ Ending.Done) × ((text : List ℕ) × IsJudgement s cables text × Appends (O.taken out.old) (O.taken out.new) text) }
 
     // `report` writes the report of each document that is accepted.
-    ensures report { (bytes : List ℕ) (s : Site) (claim : Claim) → IsBuiltWords (texts words.now) AnyCommand.Report → S.left input.old ≡ Some bytes
+    ensures report { (bytes : List ℕ) (s : Site) (claim : Claim) → AsksFor (texts words.now) AnyCommand.Report → S.left input.old ≡ Some bytes
         → Yes bytes s claim
         → RanWell (stream (S.left input.old) (S.left input.new) (S.faults input.old) (S.faults input.new))
         (stream (O.taken out.old) (O.taken out.new) (O.faults out.old) (O.faults out.new))
@@ -97,7 +98,7 @@ pub fn run<S: Source, O: Sink, E: Sink>(
         × Appends (O.taken out.old) (O.taken out.new) text) }
 
     // How each command ends, case by case.
-    ensures ends { (command : AnyCommand) → IsBuiltWords (texts words.now) command → CommandEnds command
+    ensures ends { (command : AnyCommand) → AsksFor (texts words.now) command → CommandEnds command
         (stream (S.left input.old) (S.left input.new) (S.faults input.old) (S.faults input.new))
         (stream (O.taken out.old) (O.taken out.new) (O.faults out.old) (O.faults out.new))
         (stream (E.taken note.old) (E.taken note.new) (E.faults note.old) (E.faults note.new))
@@ -125,7 +126,7 @@ fn obey<S: Source, O: Sink, E: Sink>(
     out: &mut O,
     note: &mut E,
 ) -> Ending
-    requires { IsBuiltCommand command }
+    requires { IsKnownCommand command }
     ensures { CommandEnds command
         (stream (S.left input.old) (S.left input.new) (S.faults input.old) (S.faults input.new))
         (stream (O.taken out.old) (O.taken out.new) (O.faults out.old) (O.faults out.new))

@@ -1,16 +1,15 @@
 ghost use Rattle.std.specs.Prelude.{◌≡◌, IfSome, IfNone, ◌∷◌, []};
-ghost use Rattle.cable_definitions.specs.Built.{IsBuiltWords};
 ghost use Rattle.cable_program.specs.Ends.{IsNoCommand};
-ghost use Rattle.cable_program.specs.Words.{texts};
+ghost use Rattle.cable_program.specs.Words.{texts, AsksFor};
 
 use cable_definitions::command::Command;
 use cable_text::read_number;
 
-/// What the program is asked to do, where the words are a command that is built: so far `plan N`, with a
-/// budget N from 8,191 to 50,000 nodes in its one spelling, `check`, `site`, `judge` and `report`. It is
-/// `None` exactly where they are no such command. No memory is taken.
+/// What the program is asked to do: `plan N`, with a budget N from 1 to 50,000 works in its one spelling,
+/// `check`, `site`, `judge` or `report`. It is `None` exactly where the words are no such command. No
+/// memory is taken.
 pub fn words_of(words: &[String]) -> Option<Command>
-    ensures command { IfSome result (IsBuiltWords (texts words.now)) }
+    ensures command { IfSome result (AsksFor (texts words.now)) }
     ensures none { IfNone result (IsNoCommand (texts words.now)) }
 {
     match words {
@@ -22,7 +21,7 @@ pub fn words_of(words: &[String]) -> Option<Command>
 
 /// The command of one word.
 fn command_of(word: &[u8]) -> Option<Command>
-    ensures command { IfSome result (IsBuiltWords (word.now ∷ [])) }
+    ensures command { IfSome result (AsksFor (word.now ∷ [])) }
     ensures none { IfNone result (IsNoCommand (word.now ∷ [])) }
 {
     if word == b"check".as_slice() {
@@ -42,13 +41,13 @@ fn command_of(word: &[u8]) -> Option<Command>
 
 /// The plan that two words ask for.
 fn plan_of(first: &[u8], second: &[u8]) -> Option<Command>
-    ensures command { IfSome result (IsBuiltWords (first.now ∷ second.now ∷ [])) }
+    ensures command { IfSome result (AsksFor (first.now ∷ second.now ∷ [])) }
     ensures none { IfNone result (IsNoCommand (first.now ∷ second.now ∷ [])) }
 {
     if first != b"plan".as_slice() {
         return None;
     }
-    match read_number(second, 8191, 50000) {
+    match read_number(second, 1, 50000) {
         Ok(budget) => Some(Command::Plan {
             budget: budget as u32,
             lanes: 1,

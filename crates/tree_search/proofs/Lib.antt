@@ -6,5 +6,8 @@ pub mod Starting
 pub mod Working
 pub mod Choosing
 pub mod Floor
+pub mod Ceilings
+pub mod Hopeless
 pub mod Stepping
 pub mod Ending
+pub mod Outcomes

@@ -22,7 +22,7 @@ use Rattle.proof_laws.proofs.Boxes.{set_either, append_either}
 use Rattle.proof_laws.proofs.FullNodes.{full-one}
 use Rattle.tree_search.specs.Steps.{Advances}
 use Rattle.tree_search.specs.Chosen.{IsBeaten, IsChosen, IsBoundOf}
-use Rattle.tree_search.specs.Progress.{IsSettled, AreBeaten, IsKnown, Settles}
+use Rattle.tree_search.specs.Progress.{IsClosed, AreBeaten, IsKnown, Settles}
 use Rattle.tree_search.proofs.InOrder.{full-in_order}
 
 -- ---- stopped and full nodes
@@ -32,13 +32,13 @@ StillBeaten old new = (b : ℕ) → IsBeaten old b → IsBeaten new b
 
 -- one node was set
 beaten-set : (nodes : List Node) (v : ℕ) (node y : Node) (old new : Option ℕ) → node_of nodes v ≡ Some node → AreBeaten old nodes → StillBeaten old new
-    → (IsSettled y → IsBeaten new y.bound) → AreBeaten new (slice_set nodes (v - 1) y)
+    → (IsClosed y → IsBeaten new y.bound) → AreBeaten new (slice_set nodes (v - 1) y)
 beaten-set nodes zero node y old new e beaten up here u x f settled = absurd (cc)
 beaten-set nodes (suc i) node y old new e beaten up here zero x f settled = absurd (cc)
 beaten-set nodes (suc i) node y old new e beaten up here (suc j) x f settled =
     let q : suc i - 1 ≡ i = omega arith in
     elim (set_either nodes i y node e j x (subst (λ (k : ℕ). slice_get (slice_set nodes k y) j ≡ Some x) q f)) [
-      | inl r ↦ subst (λ (z : Node). IsBeaten new z.bound) r.1 (here (subst IsSettled (sym r.1) settled))
+      | inl r ↦ subst (λ (z : Node). IsBeaten new z.bound) r.1 (here (subst IsClosed (sym r.1) settled))
       | inr r ↦ up x.bound (beaten (suc j) x r.1 settled)
     ]
 
@@ -51,7 +51,7 @@ beaten-made nodes v bound a known beaten (suc j) x f settled = elim (append_eith
 ]
   where
     not_settled : (z : Node) → z ≡ x → z.status ≡ Unworked → ⊥
-    not_settled z e u = elim (subst IsSettled (sym e) settled) [ inl p ↦ cc | inr p ↦ cc ]
+    not_settled z e u = elim (subst IsClosed (sym e) settled) [ inl p ↦ cc | inr p ↦ cc ]
 
     unsettled : (k : ℕ) → slice_get (child v bound a Used ∷ child v bound a Unused ∷ []) k ≡ Some x → ⊥
     unsettled zero e = not_settled (child v bound a Used) (cc) refl
@@ -59,11 +59,11 @@ beaten-made nodes v bound a known beaten (suc j) x f settled = elim (append_eith
     unsettled (suc (suc k)) e = cc
 
 -- a split or a dead node isn't settled
-unsettled-split : (node : Node) (bound : ℕ) → IsSettled (worked node bound WasSplit) → ⊥
+unsettled-split : (node : Node) (bound : ℕ) → IsClosed (worked node bound WasSplit) → ⊥
 unsettled-split node bound (inl e) = cc
 unsettled-split node bound (inr e) = cc
 
-unsettled-dead : (node : Node) (bound : ℕ) → IsSettled (worked node bound WasDead) → ⊥
+unsettled-dead : (node : Node) (bound : ℕ) → IsClosed (worked node bound WasDead) → ⊥
 unsettled-dead node bound (inl e) = cc
 unsettled-dead node bound (inr e) = cc
 
@@ -99,23 +99,32 @@ beaten-after s arcs rows marks nodes v node Full bound after known new_known bes
 
 -- ---- the best layout
 -- the same under equal names
-known-same : (s : Site) (old new : Option ℕ) (cables new_cables : List Cable) → new ≡ old → new_cables ≡ cables → IsKnown s cables old → IsKnown s new_cables new
-known-same s old new cables new_cables e f k = subst (λ (o : Option ℕ). IsKnown s new_cables o) (sym e) (subst (λ (xs : List Cable). IsKnown s xs old) (sym f) k)
+known-same : (s : Site) (old new : Option ℕ) (stuck : ℕ) (cables new_cables : List Cable) → new ≡ old → new_cables ≡ cables → IsKnown s cables stuck old → IsKnown s new_cables stuck new
+known-same s old new stuck cables new_cables e f k = subst (λ (o : Option ℕ). IsKnown s new_cables stuck o) (sym e) (subst (λ (xs : List Cable). IsKnown s xs stuck old) (sym f) k)
 
 -- an act leaves the best layout known
-pub known-after : (s : Site) (arcs : List Arc) (rows : List Row) (marks : List Mark) (act : Act) (bound after : ℕ) (known new_known : Option ℕ) (best new_best : List Cable)
-    → AreArcs s arcs → IsKnown s best known → IsChosen s arcs rows marks known bound act after → Settles s arcs marks act after known best new_known new_best → IsKnown s new_best new_known
-known-after s arcs rows marks (Split a) bound after known new_known best new_best are k chosen settles = known-same s known new_known best new_best settles.0 settles.1 k
-known-after s arcs rows marks Stop bound after known new_known best new_best are k chosen settles = known-same s known new_known best new_best settles.0 settles.1 k
-known-after s arcs rows marks (Dead why) bound after known new_known best new_best are k chosen settles = known-same s known new_known best new_best settles.0 settles.1 k
-known-after s arcs rows marks Full bound after known new_known best new_best are k chosen (inl keeps) = known-same s known new_known best new_best keeps.1 keeps.2 k
-known-after s arcs rows marks Full bound after known new_known best new_best are k chosen (inr takes) =
-    subst (λ (o : Option ℕ). IsKnown s new_best o) (sym takes.1)
+pub known-after : (s : Site) (arcs : List Arc) (rows : List Row) (marks : List Mark) (act : Act) (bound after stuck : ℕ) (known new_known : Option ℕ) (best new_best : List Cable)
+    → AreArcs s arcs → IsKnown s best stuck known → IsChosen s arcs rows marks known bound act after → Settles s arcs marks act after known best new_known new_best → IsKnown s new_best stuck new_known
+known-after s arcs rows marks (Split a) bound after stuck known new_known best new_best are k chosen settles = known-same s known new_known stuck best new_best settles.0 settles.1 k
+known-after s arcs rows marks Stop bound after stuck known new_known best new_best are k chosen settles = known-same s known new_known stuck best new_best settles.0 settles.1 k
+known-after s arcs rows marks (Dead why) bound after stuck known new_known best new_best are k chosen settles = known-same s known new_known stuck best new_best settles.0 settles.1 k
+known-after s arcs rows marks Full bound after stuck known new_known best new_best are k chosen (inl keeps) = known-same s known new_known stuck best new_best keeps.1 keeps.2 k
+known-after s arcs rows marks Full bound after stuck known new_known best new_best are k chosen (inr takes) =
+    subst (λ (o : Option ℕ). IsKnown s new_best stuck o) (sym takes.1)
     (record {
       legal = takes.2.legal;
       cost_is = ap (cost s) (full-one s arcs marks new_best chosen.0 takes.2 chosen.1) ∙ sym chosen.2;
       in_order = full-in_order s arcs marks new_best are takes.2;
     })
+
+-- what the known cost is at most, it is at most after an act
+pub still-beaten : (s : Site) (arcs : List Arc) (marks : List Mark) (act : Act) (after : ℕ) (known new_known : Option ℕ) (best new_best : List Cable)
+    → Settles s arcs marks act after known best new_known new_best → (b : ℕ) → IsBeaten known b → IsBeaten new_known b
+still-beaten s arcs marks (Split a) after known new_known best new_best settles = beaten-same known new_known settles.0
+still-beaten s arcs marks Stop after known new_known best new_best settles = beaten-same known new_known settles.0
+still-beaten s arcs marks (Dead why) after known new_known best new_best settles = beaten-same known new_known settles.0
+still-beaten s arcs marks Full after known new_known best new_best (inl keeps) = beaten-same known new_known keeps.1
+still-beaten s arcs marks Full after known new_known best new_best (inr takes) = λ b h. beaten-same (Some after) new_known takes.1 b (beaten-less known after takes.0 b h)
 
 -- ---- the work
 -- the act that was chosen may be done

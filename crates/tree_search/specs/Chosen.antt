@@ -6,6 +6,7 @@ use Rattle.cable_definitions.specs.declared.row.Mark.{Mark}
 use Rattle.cable_definitions.specs.declared.row.Mark.TheVariants.{Free}
 use Rattle.cable_definitions.specs.declared.row.Act.{Act}
 use Rattle.cable_definitions.specs.declared.row.Act.TheVariants.{Split, Stop, Dead, Full}
+use Rattle.cable_definitions.specs.declared.row.Why.{Why}
 use Rattle.cable_definitions.specs.Site.{Site}
 use Rattle.cable_definitions.specs.Layout.{cost}
 use Rattle.cable_definitions.specs.Row.{Row}
@@ -17,12 +18,17 @@ abbrev pub IsBeaten : Option ℕ → ℕ → Type 0
 IsBeaten None bound = ⊥
 IsBeaten (Some best) bound = best ≤ bound
 
--- the act may be done on a node with these marks and this new bound, where this cost is known; the node is left with the last bound
+-- no reason is true of a node with these marks and this bound
+abbrev pub IsAlive : Site → List Arc → List Row → List Mark → ℕ → Type 0
+IsAlive s arcs rows marks bound = (why : Why) → ¬ (IsDead s arcs rows marks bound why)
+
+-- the act may be done on a node with these marks and this new bound, where this cost is known; the node is left with the last bound. A node of
+-- which some reason is true is dead.
 abbrev pub IsChosen : Site → List Arc → List Row → List Mark → Option ℕ → ℕ → Act → ℕ → Type 0
-IsChosen s arcs rows marks known bound (Split a) after = (slice_get marks a ≡ Some Free) × (after ≡ bound)
-IsChosen s arcs rows marks known bound Stop after = IsBeaten known bound × (after ≡ bound)
+IsChosen s arcs rows marks known bound (Split a) after = (slice_get marks a ≡ Some Free) × (after ≡ bound) × IsAlive s arcs rows marks bound
+IsChosen s arcs rows marks known bound Stop after = IsBeaten known bound × (after ≡ bound) × IsAlive s arcs rows marks bound
 IsChosen s arcs rows marks known bound (Dead why) after = IsDead s arcs rows marks bound why × (after ≡ bound)
-IsChosen s arcs rows marks known bound Full after = (cables : List Cable) × IsFull s arcs marks cables × (after ≡ cost s cables)
+IsChosen s arcs rows marks known bound Full after = (cables : List Cable) × IsFull s arcs marks cables × (after ≡ cost s cables) × IsAlive s arcs rows marks bound
 
 -- the bound that these weights give node v
 pub record IsBoundOf (s : Site) (arcs : List Arc) (rows : List Row) (nodes : List Node) (v : ℕ) (weights : List (ℕ × ℤ)) (bound : ℕ) : Type 0 where

@@ -1,13 +1,16 @@
 -- What a search finds, and what it has written where it stops early.
-use Rattle.std.specs.Prelude.{◌≡◌, ℕ, ◌<◌, ◌≤◌, List, Some, Option, map, AllPairs}
+use Rattle.std.specs.Prelude.{◌≡◌, ℕ, ◌^◌, ◌<◌, ◌≤◌, List, Some, Option, map, AllPairs, IsTrue}
 use Rattle.std.specs.List.{concat}
 use Rattle.cable_definitions.specs.declared.cable.Cable.{Cable}
 use Rattle.cable_definitions.specs.declared.cable.Arc.{Arc}
 use Rattle.cable_definitions.specs.declared.claim.Claim.{Claim}
 use Rattle.cable_definitions.specs.declared.claim.Claim.TheVariants.{Optimal, Gap, Partial, Infeasible}
 use Rattle.cable_definitions.specs.Site.{Site}
-use Rattle.cable_definitions.specs.Budget.{IsNearest}
-use Rattle.cable_definitions.specs.Tree.{Node, Item, Kept, node_of, IsAccepted, Agrees}
+use Rattle.cable_definitions.specs.Arcs.{IsCandidate, kind_of, is_turbine}
+use Rattle.cable_definitions.specs.Layout.{IsLegal, cost}
+use Rattle.cable_definitions.specs.Part.{IsSettled, IsStraight}
+use Rattle.cable_definitions.specs.Budget.{IsNearest, enough_budget}
+use Rattle.cable_definitions.specs.Tree.{WasFull, Node, Item, Kept, node_of, IsAccepted, Agrees}
 use Rattle.cable_definitions.specs.Text.{item_lines}
 use Rattle.cable_definitions.specs.Built.{AreBuilt}
 use Rattle.cable_text.specs.Stream.{Appends, AppendsPrefix}
@@ -19,20 +22,50 @@ IsFinal (Gap best bound) = ⊥
 IsFinal (Partial bound stuck) = ⊥
 IsFinal Infeasible = Unit {0}
 
+-- the claim is of a layout that costs at most this
+abbrev pub CostsAtMost : ℕ → Claim → Type 0
+CostsAtMost most (Optimal best) = best ≤ most
+CostsAtMost most (Gap best bound) = best ≤ most
+CostsAtMost most (Partial bound stuck) = ⊥
+CostsAtMost most Infeasible = ⊥
+
+-- the layout of a claim with a cost is settled
+abbrev pub IsSettledFor : Site → List Cable → Claim → Type 0
+IsSettledFor s cables (Optimal best) = IsSettled s cables
+IsSettledFor s cables (Gap best bound) = IsSettled s cables
+IsSettledFor s cables (Partial bound stuck) = Unit {0}
+IsSettledFor s cables Infeasible = Unit {0}
+
+-- no candidate arc leads out of some turbine
+abbrev pub IsHopeless : Site → Type 0
+IsHopeless s = (p : ℕ) × IsTrue (is_turbine (kind_of s p)) × ((q : ℕ) → ¬ (IsCandidate s p q))
+
 -- each made node's bound is at least this
 abbrev pub AreAbove : ℕ → List Node → Type 0
 AreAbove m nodes = (v : ℕ) (node : Node) → node_of nodes v ≡ Some node → m ≤ node.bound
 
--- Accepted items whose lines were appended to a sink, with a layout in ascending order of start and a final claim that agree with them; no bound
--- is below the sum of the least costs out of the turbines.
+-- What is so of the layout and the claim with which a search ends that had n works, by what is kept of its items: they agree with it; the claim is
+-- final where n is enough, and where no arc leads out of some turbine it is that there is no layout. A layout with a cost is settled, and costs no
+-- more than the straight layout, where that is legal, nor than the layout of any full node; where there is one of these, a layout with a cost is
+-- claimed.
+pub record IsOutcome (s : Site) (arcs : List Arc) (n : ℕ) (kept : Kept) (cables : List Cable) (claim : Claim) : Type 0 where
+  pub in_order : AllPairs (λ c d. c.from < d.from) cables
+  pub agrees : Agrees s n kept cables claim
+  pub closed : enough_budget arcs ≤ n → IsFinal claim
+  pub hopeless : IsHopeless s → claim ≡ Infeasible
+  pub settled : IsSettledFor s cables claim
+  pub straight : (straight : List Cable) → IsStraight s straight → IsLegal s straight → CostsAtMost (cost s straight) claim
+  pub full : (v : ℕ) (node : Node) → node_of kept.nodes v ≡ Some node → node.status ≡ WasFull → CostsAtMost node.bound claim
+  pub open_small : (bound stuck : ℕ) → claim ≡ Partial bound stuck → bound < 2 ^ 63
+
+-- Accepted items whose lines were appended to a sink, with the layout and the claim of the outcome; no bound is below the sum of the least costs
+-- out of the turbines.
 pub record FindsPlan (s : Site) (arcs : List Arc) (n : ℕ) (taken_old taken_new : Option (List ℕ)) (cables : List Cable) (claim : Claim) : Type 0 where
   pub items : List Item
   pub kept : Kept
   pub accepted : IsAccepted s arcs n items kept
   pub built : AreBuilt items claim
-  pub in_order : AllPairs (λ c d. c.from < d.from) cables
-  pub agrees : Agrees s n kept cables claim
-  pub final : IsFinal claim
+  pub outcome : IsOutcome s arcs n kept cables claim
   pub floor : (nearest : ℕ) → IsNearest s nearest → AreAbove nearest kept.nodes
   pub written : Appends taken_old taken_new (concat (map item_lines items))
 

@@ -1,6 +1,5 @@
 ghost use Rattle.std.specs.Prelude.{◌≡◌, ◌≤◌, Err, IfOk, OnErr};
 ghost use Rattle.cable_definitions.specs.Arcs.{AreArcs};
-ghost use Rattle.cable_definitions.specs.Budget.{enough_budget};
 ghost use Rattle.cable_text.specs.Stream.{Rose};
 ghost use Rattle.tree_search.specs.Found.{FindsPlan, WritesPart};
 
@@ -13,8 +12,8 @@ use site_model::Site;
 use std::alloc::{AllocError, Global};
 use thiserror::Error;
 
-/// A layout in ascending order of start, and what is claimed of it: that it is the cheapest, at this
-/// cost; or, of no cable, that the site has no legal layout.
+/// Cables in ascending order of start, and what is claimed of them: a settled layout with a cost that is optimal, or that lies above
+/// a bound by a gap; a grown part with a turbine that can't be joined to it, and a bound; or no cable, where the site has no legal layout.
 #[derive(Drop)]
 pub struct Plan {
     pub layout: Layout,
@@ -50,15 +49,15 @@ impl From<Failed> for SearchFault {
     }
 }
 
-/// Finds the cheapest legal layout of a site, or that there is none, by splitting candidate arcs into
-/// used and unused. It begins with a settled layout, where the greedy growth or the straight layout gives
-/// a legal one, and stops at each node that is neither dead nor full and whose bound isn't below the
-/// least cost so far.
+/// Searches for the cheapest legal layout of a site, by splitting candidate arcs into used and unused, and works at most as many nodes as
+/// the budget has. It begins with a settled layout, where the greedy growth or the straight layout gives a legal one, and stops at each
+/// node that is neither dead nor full and whose bound isn't below the least cost so far.
 ///
 /// Appends each row and each work to `out` when it is made: first the rows of the turbines, of the points
 /// and of the bends, then the works, the last made open node first.
 ///
-/// The budget of works has to be enough for the site, so that the search always ends.
+/// It ends where no node is open, with the cheapest layout or the claim that there is none; or where the budget is spent, with the
+/// cheapest layout so far, settled, and the least bound, or with the grown part where no layout was found.
 ///
 /// # Errors
 ///
@@ -72,7 +71,7 @@ pub fn search<O: Sink>(
     out: &mut O,
 ) -> Result<Plan, SearchFault>
     requires arcs { AreArcs site.now arcs.now }
-    requires enough { enough_budget arcs.now ≤ budget }
+    requires some { 1 ≤ budget }
     requires most { budget ≤ 50000 }
     ensures plan { IfOk result (λ plan. FindsPlan site.now arcs.now budget (O.taken out.old) (O.taken out.new) plan.layout plan.claim) }
     ensures part { OnErr result (WritesPart site.now arcs.now budget (O.taken out.old) (O.taken out.new)) }
@@ -81,5 +80,5 @@ pub fn search<O: Sink>(
 {
     let mut progress = Progress::new(alloc, site, arcs, budget)?;
     progress.run(site, arcs, out)?;
-    Ok(progress.into_plan())
+    Ok(progress.into_plan(alloc, site, arcs)?)
 }

@@ -3,6 +3,7 @@
 
 mod choice;
 mod finding;
+mod outcome;
 mod progress;
 mod rows;
 mod start;

@@ -3,18 +3,19 @@
 ghost use Rattle.std.specs.Prelude.{◌≡◌, ℕ, ◌+◌, ◌^◌, ◌≤◌, ◌<◌, [], ◌∷◌, ◌++◌, List, length, false, pos, ◌≤ℤ◌, ◌<ℤ◌, unsigned_abs, IsTrue, IfOk, OnOk, vec_capacity};
 ghost use Rattle.cable_definitions.specs.declared.cable.Cable.{Cable};
 ghost use Rattle.cable_definitions.specs.Arcs.{AreArcs};
-ghost use Rattle.cable_definitions.specs.Budget.{enough_budget};
 ghost use Rattle.cable_definitions.specs.Layout.{cost as cost_of_all};
 ghost use Rattle.cable_definitions.specs.Tree.{IsFull, nothing_kept};
 ghost use Rattle.tree_search.specs.Steps.{Advances};
-ghost use Rattle.tree_search.specs.Progress.{kept_of, IsFresh, IsSearching, KeepsBest, Settles, claim_of};
+ghost use Rattle.tree_search.specs.Found.{IsOutcome};
+ghost use Rattle.tree_search.specs.Progress.{kept_of, IsFresh, IsSearching, IsSpent, KeepsBest, Settles};
 
 use crate::choice::{Choice, bound_of, choose, is_beaten};
 use crate::finding::Plan;
+use crate::outcome::{no_layout, part_claim, settled_plan};
 use crate::rows::list_first_rows;
 use crate::start::first_best;
 use bound_value::{Decisions, Weights};
-use branch_tree::{Act, Claim, Tree, Work, full_layout};
+use branch_tree::{Act, Tree, Work, full_layout};
 use cable_rows::RowPool;
 use cable_text::{Failed, Sink};
 use candidate_cables::Arcs;
@@ -23,16 +24,19 @@ use proof_lines::write_work;
 use site_model::Site;
 use std::alloc::{AllocError, Global};
 
-/// The rows, the tree and its open nodes, and the cheapest layout so far, which is at first the one to begin with, with its cost. The decisions
-/// are those of the node that is worked, and the work is the last that was done.
+/// The most works, the rows, the tree and its open nodes, and the cheapest layout so far, which is at first the one to begin with, with its cost;
+/// while no cost is known it is a grown part, with a turbine that can't be joined to it. The decisions are those of the node that is worked, and the
+/// work is the last that was done.
 #[derive(Drop)]
 pub(crate) struct Progress {
+    budget: u32,
     pool: RowPool,
     tree: Tree,
     decisions: Decisions,
     open_nodes: Vec<u32>,
     best: Layout,
     known: Option<u64>,
+    stuck: u32,
     work: Work,
 }
 
@@ -125,12 +129,14 @@ impl Progress {
         let count = arcs.len();
         let best = first_best(alloc, site, arcs)?;
         Ok(Progress {
+            budget,
             pool: RowPool::new(alloc)?,
             tree: Tree::new(alloc, budget, count)?,
             decisions: Decisions::new(alloc, count)?,
             open_nodes: first_open(alloc, budget)?,
             best: best.layout,
             known: best.known,
+            stuck: best.stuck,
             work: Work {
                 node: 0,
                 weights: Weights::new(alloc)?,
@@ -139,7 +145,8 @@ impl Progress {
         })
     }
 
-    /// Works the open node that was added last, and writes the work; answers false where there is none.
+    /// Works the open node that was added last, and writes the work; answers false where there is none, or as many works were done as the budget
+    /// has.
     ///
     /// # Errors
     ///
@@ -151,8 +158,11 @@ impl Progress {
             → Advances result site.now arcs.now n (kept_of self.old) (kept_of self.new) (O.taken out.old) (O.taken out.new) (O.faults out.old) (O.faults out.new) }
         ensures searching { OnOk result ((n : ℕ) → IsSearching site.now arcs.now n self.old → IsSearching site.now arcs.now n self.new) }
         ensures more { IfOk result (λ more. IsTrue more → (self.old.tree.works < self.old.tree.budget) × (self.new.tree.works ≡ self.old.tree.works + 1)) }
-        ensures none { IfOk result (λ more. more ≡ false → self.new.open_nodes.items ≡ []) }
+        ensures none { IfOk result (λ more. more ≡ false → IsSpent self.new) }
     {
+        if self.tree.works() == self.budget {
+            return Ok(false);
+        }
         let Some(node) = self.open_nodes.pop() else {
             return Ok(false);
         };
@@ -176,7 +186,7 @@ impl Progress {
         let count = self.tree.count();
         match self.tree.work(node, act, bound) {
             Ok(()) => {}
-            // The node isn't worked yet, and the budget is enough for all works.
+            // The node isn't worked yet, and some of the budget is left.
             Err(_) => unreachable!(),
         }
         push_children(&mut self.open_nodes, act, count);
@@ -195,7 +205,7 @@ impl Progress {
         Ok(true)
     }
 
-    /// Works open nodes until none is left.
+    /// Works open nodes until none is left or the budget is spent.
     ///
     /// # Errors
     ///
@@ -206,13 +216,13 @@ impl Progress {
         ensures advances { (n : ℕ) → IsSearching site.now arcs.now n self.old
             → Advances result site.now arcs.now n (kept_of self.old) (kept_of self.new) (O.taken out.old) (O.taken out.new) (O.faults out.old) (O.faults out.new) }
         ensures searching { OnOk result ((n : ℕ) → IsSearching site.now arcs.now n self.old → IsSearching site.now arcs.now n self.new) }
-        ensures none { OnOk result (self.new.open_nodes.items ≡ []) }
+        ensures spent { OnOk result (IsSpent self.new) }
     {
         while self.step(site, arcs, out)? {}
         Ok(())
     }
 
-    /// Lists the rows of points, and works the tree until no node is open.
+    /// Lists the rows of points, and works the tree until no node is open or the budget is spent.
     ///
     /// # Errors
     ///
@@ -224,29 +234,43 @@ impl Progress {
         out: &mut O,
     ) -> Result<(), Failed>
         requires arcs { AreArcs site.now arcs.now }
-        requires fresh { (n : ℕ) × (enough_budget arcs.now ≤ n) × IsFresh site.now arcs.now n self.old }
-        ensures advances { (n : ℕ) → enough_budget arcs.now ≤ n → IsFresh site.now arcs.now n self.old
+        requires fresh { (n : ℕ) × IsFresh site.now arcs.now n self.old }
+        ensures advances { (n : ℕ) → IsFresh site.now arcs.now n self.old
             → Advances result site.now arcs.now n nothing_kept (kept_of self.new) (O.taken out.old) (O.taken out.new) (O.faults out.old) (O.faults out.new) }
-        ensures searching { OnOk result ((n : ℕ) → enough_budget arcs.now ≤ n → IsFresh site.now arcs.now n self.old → IsSearching site.now arcs.now n self.new) }
-        ensures none { OnOk result (self.new.open_nodes.items ≡ []) }
+        ensures searching { OnOk result ((n : ℕ) → IsFresh site.now arcs.now n self.old → IsSearching site.now arcs.now n self.new) }
+        ensures spent { OnOk result (IsSpent self.new) }
     {
         let _valid = site.points();
         list_first_rows(site, arcs, &mut self.pool, out)?;
         self.work_all(site, arcs, out)
     }
 
-    /// The cheapest layout so far with the claim that its cost is optimal; no cable and the claim that there is no layout, where none was found.
-    pub(crate) fn into_plan(self) -> Plan
-        ensures layout { result.layout ≡ self.best }
-        ensures claim { result.claim ≡ claim_of self.known }
+    /// What the search ends with: the cheapest layout so far, settled, and the claim that the least bound of a leaf that isn't dead allows; the part
+    /// that was grown, where no layout is known; no cable, where all leaves are dead.
+    ///
+    /// # Errors
+    ///
+    /// `AllocError` where there is no memory.
+    pub(crate) fn into_plan(
+        self,
+        alloc: Global,
+        site: &Site,
+        arcs: &Arcs,
+    ) -> Result<Plan, AllocError>
+        requires arcs { AreArcs site.now arcs.now }
+        requires searching { (n : ℕ) × IsSearching site.now arcs.now n self }
+        requires spent { IsSpent self }
+        ensures { IfOk result (λ plan. (n : ℕ) → IsSearching site.now arcs.now n self → IsOutcome site.now arcs.now n (kept_of self) plan.layout plan.claim) }
     {
-        let claim = match self.known {
-            None => Claim::Infeasible,
-            Some(cost) => Claim::Optimal(cost),
+        let Some(bound) = self.tree.least() else {
+            return Ok(no_layout(self.best));
         };
-        Plan {
-            layout: self.best,
-            claim,
+        match self.known {
+            None => Ok(Plan {
+                layout: self.best,
+                claim: part_claim(bound, self.stuck),
+            }),
+            Some(_) => settled_plan(alloc, site, arcs, &self.best, bound),
         }
     }
 }

@@ -1,6 +1,4 @@
-ghost use Rattle.std.specs.Prelude.{◌≤◌, IfOk};
-ghost use Rattle.cable_definitions.specs.Arcs.{AreArcs};
-ghost use Rattle.cable_definitions.specs.Budget.{enough_budget};
+ghost use Rattle.std.specs.Prelude.{◌≤◌};
 
 use crate::{Plan, SearchFault, search};
 use cable_definitions::cable::Cable;
@@ -40,27 +38,22 @@ fn site_of(
     Ok(builder.build()?)
 }
 
-/// The arcs of a site of at most four points.
-fn few_arcs(alloc: Global, site: &Site) -> Result<Arcs, Fail>
-    ensures arcs { IfOk result (AreArcs site.now) }
-    ensures enough { IfOk result (λ arcs. enough_budget arcs ≤ 8191) }
+/// What is found for a site within so many works.
+fn plan_of(alloc: Global, site: &Site, budget: u32, out: &mut MemorySink) -> Result<Plan, Fail>
+    requires some { 1 ≤ budget }
+    requires most { budget ≤ 50000 }
 {
-    if site.points().len() > 4 {
-        return Err(Fail::from("more than four points"));
-    }
-    Ok(Arcs::new(alloc, site)?)
+    let arcs = Arcs::new(alloc, site)?;
+    Ok(search(alloc, site, &arcs, budget, out)?)
 }
 
-/// What is found for a site of at most four points.
-fn plan_of(alloc: Global, site: &Site, out: &mut MemorySink) -> Result<Plan, Fail> {
-    let arcs = few_arcs(alloc, site)?;
-    Ok(search(alloc, site, &arcs, 8191, out)?)
-}
-
-/// What is claimed of a site of at most four points.
-fn claim_of(alloc: Global, site: &Site) -> Result<Claim, Fail> {
+/// What is claimed of a site within so many works.
+fn claim_of(alloc: Global, site: &Site, budget: u32) -> Result<Claim, Fail>
+    requires some { 1 ≤ budget }
+    requires most { budget ≤ 50000 }
+{
     let mut out = MemorySink::new(alloc, 1 << 20, Vec::new(alloc))?;
-    Ok(plan_of(alloc, site, &mut out)?.claim)
+    Ok(plan_of(alloc, site, budget, &mut out)?.claim)
 }
 
 #[test]
@@ -73,7 +66,7 @@ fn the_cheapest_costs(rt: HostRuntime) -> Result<(), Fail> {
         (Mode::Strings, 400, 2100),
     ] {
         let site = site_of(alloc, mode, capacity, 1, &fork)?;
-        assert_eq!(&rt; claim_of(alloc, &site)?, Claim::Optimal(cost));
+        assert_eq!(&rt; claim_of(alloc, &site, 1023)?, Claim::Optimal(cost));
     }
     Ok(())
 }
@@ -84,8 +77,47 @@ fn sites_without_layouts(rt: HostRuntime) -> Result<(), Fail> {
     for (feeders, power) in [(0, 10000), (1, 10000), (4, 299)] {
         let substation = (b'S', 0, 0, RawKind::Substation(feeders, power));
         let site = site_of(alloc, Mode::Tree, 200, 1, &[substation, NEAR, LEFT, RIGHT])?;
-        assert_eq!(&rt; claim_of(alloc, &site)?, Claim::Infeasible);
+        assert_eq!(&rt; claim_of(alloc, &site, 1023)?, Claim::Infeasible);
     }
+    Ok(())
+}
+
+/// Three turbines of 100 power units at three corners of a square, the substation at the fourth.
+const CORNERS: [RawPoint; 3] = [
+    (b'A', 0, 1000, RawKind::Turbine(100)),
+    (b'B', 1000, 0, RawKind::Turbine(100)),
+    (b'C', 1000, 1000, RawKind::Turbine(100)),
+];
+
+/// One work proves the sum of the least costs out of the turbines; a part is left where no layout is known.
+#[test]
+fn one_work(rt: HostRuntime) -> Result<(), Fail> {
+    let alloc = rt.alloc();
+    let fork = site_of(alloc, Mode::Tree, 400, 1, &[SUBSTATION, NEAR, LEFT, RIGHT])?;
+    let gap = Claim::Gap {
+        cost: 2000,
+        bound: 1500,
+    };
+    assert_eq!(&rt; claim_of(alloc, &fork, 1)?, gap);
+
+    let one_feeder = (b'S', 0, 0, RawKind::Substation(1, 10000));
+    let [first, second, third] = CORNERS;
+    let square = site_of(
+        alloc,
+        Mode::Tree,
+        200,
+        1,
+        &[one_feeder, first, second, third],
+    )?;
+    let open = Claim::Partial {
+        bound: 3000,
+        stuck: 3,
+    };
+    assert_eq!(&rt; claim_of(alloc, &square, 1)?, open);
+    assert_eq!(&rt; claim_of(alloc, &square, 1023)?, Claim::Infeasible);
+
+    let alone = site_of(alloc, Mode::Tree, 400, 1, &[NEAR])?;
+    assert_eq!(&rt; claim_of(alloc, &alone, 1)?, Claim::Infeasible);
     Ok(())
 }
 
@@ -99,7 +131,7 @@ fn one_turbine(rt: HostRuntime) -> Result<(), Fail> {
     let turbine = (b'A', 300, 400, RawKind::Turbine(100));
     let site = site_of(alloc, Mode::Tree, 400, 100, &[SUBSTATION, turbine])?;
     let mut out = MemorySink::new(alloc, 1000, Vec::new(alloc))?;
-    let plan = plan_of(alloc, &site, &mut out)?;
+    let plan = plan_of(alloc, &site, 1023, &mut out)?;
     assert_eq!(&rt; plan.claim, Claim::Optimal(50000));
     let cable = Cable {
         from: 1,
@@ -116,9 +148,9 @@ fn a_failing_sink_ends_the_search(rt: HostRuntime) -> Result<(), Fail> {
     let alloc = rt.alloc();
     let turbine = (b'A', 300, 400, RawKind::Turbine(100));
     let site = site_of(alloc, Mode::Tree, 400, 100, &[SUBSTATION, turbine])?;
-    let arcs = few_arcs(alloc, &site)?;
+    let arcs = Arcs::new(alloc, &site)?;
     let mut out = MemorySink::new(alloc, 50, Vec::new(alloc))?;
-    match search(alloc, &site, &arcs, 8191, &mut out) {
+    match search(alloc, &site, &arcs, 1023, &mut out) {
         Ok(_) => assert!(&rt; false),
         Err(fault) => assert_eq!(&rt; fault, SearchFault::Write),
     }

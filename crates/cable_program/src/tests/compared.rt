@@ -78,7 +78,7 @@ fn the_search_finds_what_all_choices_show(rt: HostRuntime) -> Result<(), AllocEr
         }
         let mut lines = MemorySink::new(alloc, 1024, Vec::new(alloc))?;
         let _ = write_site(&site, &mut lines);
-        let plan = ran_with(alloc, &["plan", "8191"], lines.taken(), &[], &[], &[])?;
+        let plan = ran_with(alloc, &["plan", "1023"], lines.taken(), &[], &[], &[])?;
         match cheapest_layout(alloc, &site)? {
             Some((_, cost)) => {
                 let end = optimal_end(alloc, cost)?;

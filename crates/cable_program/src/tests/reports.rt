@@ -31,7 +31,7 @@ const REPORTS: [(&str, &str); 3] = [
 fn plans_are_reported(rt: HostRuntime) -> Result<(), AllocError> {
     let alloc = rt.alloc();
     for (site, text) in REPORTS {
-        let plan = run_on(alloc, &["plan", "8191"], site)?;
+        let plan = run_on(alloc, &["plan", "1023"], site)?;
         let report = ran_with(alloc, &["report"], plan.out.as_slice(), &[], &[], &[])?;
         assert_eq!(rt; report.status, 0, "{site}");
         assert!(rt; report.out.as_slice() == text.as_bytes(), "{site}");
@@ -42,7 +42,7 @@ fn plans_are_reported(rt: HostRuntime) -> Result<(), AllocError> {
 #[test]
 fn what_is_refused_is_not_reported(rt: HostRuntime) -> Result<(), AllocError> {
     let alloc = rt.alloc();
-    let plan = run_on(alloc, &["plan", "8191"], FIRST)?;
+    let plan = run_on(alloc, &["plan", "1023"], FIRST)?;
     let cut = match plan.out.as_slice().strip_suffix(b"\n".as_slice()) {
         Some(cut) => cut,
         None => &[],

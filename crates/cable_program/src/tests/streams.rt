@@ -2,18 +2,17 @@ use super::{FIRST, ran_with, run_on};
 use std::alloc::{AllocError, Global};
 
 /// Words that are no command.
-const NO_COMMAND: [&[&str]; 16] = [
+const NO_COMMAND: [&[&str]; 15] = [
     &[],
     &[""],
     &["plan"],
     &["plan", "0"],
-    &["plan", "8190"],
     &["plan", "50001"],
     &["plan", "05"],
-    &["plan", "08191"],
-    &["plan", "8191 "],
-    &["Plan", "8191"],
-    &["plan", "8191", "1"],
+    &["plan", "01023"],
+    &["plan", "1023 "],
+    &["Plan", "1023"],
+    &["plan", "1023", "1"],
     &["plan", "5", "5", "5"],
     &["check", "check"],
     &["Check"],
@@ -43,7 +42,7 @@ fn other_words_are_usage(rt: HostRuntime) -> Result<(), AllocError> {
 fn a_refusal_that_is_not_noted_is_a_write_fault(rt: HostRuntime) -> Result<(), AllocError> {
     let alloc = rt.alloc();
     for words in [
-        ["plan", "8191"].as_slice(),
+        ["plan", "1023"].as_slice(),
         &["check"],
         &["site"],
         &["judge"],
@@ -58,9 +57,9 @@ fn a_refusal_that_is_not_noted_is_a_write_fault(rt: HostRuntime) -> Result<(), A
 
 /// The commands with an input that each does its work on.
 fn inputs(alloc: Global) -> Result<Vec<(&'static [&'static str], Vec<u8>)>, AllocError> {
-    let plan = run_on(alloc, &["plan", "8191"], FIRST)?;
+    let plan = run_on(alloc, &["plan", "1023"], FIRST)?;
     let mut inputs: Vec<(&'static [&'static str], Vec<u8>)> = Vec::new(alloc);
-    inputs.push((&["plan", "8191"], Vec::from_slice(alloc, FIRST.as_bytes())?))?;
+    inputs.push((&["plan", "1023"], Vec::from_slice(alloc, FIRST.as_bytes())?))?;
     inputs.push((&["check"], Vec::from_slice(alloc, plan.out.as_slice())?))?;
     inputs.push((&["report"], plan.out))?;
     inputs.push((&["site"], Vec::from_slice(alloc, FIRST.as_bytes())?))?;

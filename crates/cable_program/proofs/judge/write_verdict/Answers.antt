@@ -1,6 +1,4 @@
-use Rattle.std.proofs.Common.{inl, inr, ap, sym, refl}
-use Rattle.cable_definitions.specs.Answers.{legal_line, broken_line}
-use Rattle.cable_program.proofs.Broken.{points_named, broken_of, legal_of}
+use Rattle.cable_program.proofs.Broken.{points_named, broken_of}
 use Rattle.cable_program.proofs.judge.write_verdict.Goals as goal
 
 pub write_broken-requires-clause-first : goal.write_broken-requires-clause-first

@@ -1,9 +1,8 @@
-use Rattle.std.proofs.Common.{ap, arith}
+use Rattle.std.proofs.Common.{ap}
 use Rattle.std.specs.Prelude.{Err}
 use Rattle.cable_text.proofs.Writing.{Rose-after}
-use Rattle.proof_laws.proofs.FewArcs.{few_points_few_nodes}
 use Rattle.cable_program.specs.Ends.{stream}
-use Rattle.cable_program.proofs.Plans.{cables_found, head_part, items_part, tail_part, printed_whole}
+use Rattle.cable_program.proofs.Plans.{cables_found, claim_found, head_part, items_part, tail_part, printed_whole}
 use Rattle.cable_program.proofs.plan.print_plan.Goals as goal
 
 pub returns-in-Err-write_head : goal.returns-in-Err-write_head
@@ -14,12 +13,6 @@ returns-in-Err-write_head g c =
       head_part _ (stream (g.O.Sink.taken before) (g.O.Sink.taken after) (g.O.Sink.faults before) (g.O.Sink.faults after)) c.in-Ok.site c.args.budget c.in-Ok-new.arcs
           c.in-Ok.ensures c.in-Ok-new.ensures c.in-Err-write_head.ensures.part,
     )
-
-pub search-requires-clause-enough : goal.search-requires-clause-enough
-search-requires-clause-enough g c =
-    let few = few_points_few_nodes c.in-Ok.site c.in-Ok-new.arcs c.in-Ok-new.ensures c.in-Ok.ensures.built in
-    let enough = c.requires.enough in
-    omega (arith, few, enough)
 
 pub returns-in-Err-Write : goal.returns-in-Err-Write
 returns-in-Err-Write g c =
@@ -40,16 +33,16 @@ returns-in-Err-Memory g c =
 pub write_tail-requires-clause-cables : goal.write_tail-requires-clause-cables
 write_tail-requires-clause-cables g c = cables_found _ _ _ _ _ _ _ c.in-Ok-search.ensures.plan
 
+pub write_tail-requires-clause-claim : goal.write_tail-requires-clause-claim
+write_tail-requires-clause-claim g c = claim_found _ _ _ _ _ _ _ c.in-Ok-search.ensures.plan
+
 pub returns-in-Ok-write_tail : goal.returns-in-Ok-write_tail
 returns-in-Ok-write_tail g c =
     let before = c.args.out.now in
     let after = c.write_tail.new.out in
-    let enough = c.requires.enough in (
-      printed_whole _ (stream (g.O.Sink.taken before) (g.O.Sink.taken after) (g.O.Sink.faults before) (g.O.Sink.faults after)) _ _ c.in-Ok.site c.args.budget c.in-Ok-new.arcs
-          c.in-Ok-search.plan.layout c.in-Ok-search.plan.claim (omega (arith, enough)) c.requires.most
-          c.in-Ok.ensures c.in-Ok-new.ensures c.in-Ok-write_head.ensures.ok c.in-Ok-search.ensures.plan c.in-Ok-write_tail.ensures.ok,
-      c.in-Ok-search.ensures.plan.final,
-    )
+    printed_whole _ (stream (g.O.Sink.taken before) (g.O.Sink.taken after) (g.O.Sink.faults before) (g.O.Sink.faults after)) _ _ c.in-Ok.site c.args.budget c.in-Ok-new.arcs
+    c.in-Ok-search.plan.layout c.in-Ok-search.plan.claim c.requires.some c.requires.most
+    c.in-Ok.ensures c.in-Ok-new.ensures c.in-Ok-write_head.ensures.ok c.in-Ok-search.ensures.plan c.in-Ok-write_tail.ensures.ok
 
 pub returns : goal.returns
 returns g c =

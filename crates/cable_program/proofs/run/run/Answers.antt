@@ -5,7 +5,7 @@ use Rattle.cable_program.proofs.Headlines.{promise_of, yes_of, lines_of, judgeme
 use Rattle.cable_program.proofs.run.run.Goals as goal
 
 pub returns-in-None-clause-headline : goal.returns-in-None-clause-headline
-returns-in-None-clause-headline g c = λ n bytes s built told site few well. absurd (c.in-None.ensures.none (Plan n 1) built)
+returns-in-None-clause-headline g c = λ n bytes s built told site well. absurd (c.in-None.ensures.none (Plan n 1) built)
 
 pub returns-in-None-clause-yes : goal.returns-in-None-clause-yes
 returns-in-None-clause-yes g c = λ bytes s claim built told yes well. absurd (c.in-None.ensures.none Check built)
@@ -28,7 +28,7 @@ returns-in-Some-clause-ends g c = λ other built.
     c.obey.result c.in-Some.ensures.command built c.obey.ensures
 
 pub returns-in-Some-clause-headline : goal.returns-in-Some-clause-headline
-returns-in-Some-clause-headline g c = λ n bytes s built told site few well. promise_of n bytes s _ _ _ _ (returns-in-Some-clause-ends g c (Plan n 1) built) told site few well
+returns-in-Some-clause-headline g c = λ n bytes s built told site well. promise_of n bytes s _ _ _ _ (returns-in-Some-clause-ends g c (Plan n 1) built) told site well
 
 pub returns-in-Some-clause-yes : goal.returns-in-Some-clause-yes
 returns-in-Some-clause-yes g c = λ bytes s claim built told yes well. yes_of bytes s claim _ _ _ _ (returns-in-Some-clause-ends g c Check built) told yes well

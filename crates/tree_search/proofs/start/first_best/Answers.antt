@@ -1,15 +1,18 @@
-use Rattle.layout_laws.proofs.Alike.{IsLegal-ordered}
-use Rattle.tree_search.proofs.Starting.{arranged-starts}
+use Rattle.tree_search.proofs.Starting.{stuck_part, stuck-straight, found-straight}
 use Rattle.tree_search.proofs.start.first_best.Goals as goal
 
-pub improve_layout-requires-clause-legal : goal.improve_layout-requires-clause-legal
-improve_layout-requires-clause-legal c = (c.in_ok-greedy.ensures.found c.in-Found.layout c.in-Found.field-1 c.in-Found.is).0
+pub settle_layout-requires-clause-legal : goal.settle_layout-requires-clause-legal
+settle_layout-requires-clause-legal c = (c.in_ok-part.ensures.found c.in-Found.layout c.in-Found.field-1 c.in-Found.is).0
 
-pub with_cost-requires-clause-legal : goal.with_cost-requires-clause-legal
-with_cost-requires-clause-legal c =
-    let legal = c.in_ok-better-in-Found.ensures.settled.legal in
-    IsLegal-ordered c.args.site.now c.in_ok-better-in-Found.better c.arrange.new.self (c.arrange.ensures.starts_differ legal.start) (c.arrange.ensures.same_outs legal.start) legal
+pub returns-in-Stuck-clause-known : goal.returns-in-Stuck-clause-known
+returns-in-Stuck-clause-known c =
+    stuck_part c.args.site.now c.in-Stuck.part c.arrange.new.self c.in-Stuck.turbine (c.in_ok-part.ensures.stuck c.in-Stuck.part c.in-Stuck.turbine c.in-Stuck.is)
+    c.arrange.ensures.starts_differ c.arrange.ensures.same_outs c.arrange.ensures.in_order
 
-pub with_cost-requires-clause-in_order : goal.with_cost-requires-clause-in_order
-with_cost-requires-clause-in_order c =
-    arranged-starts c.arrange.new.self (c.arrange.ensures.starts_differ c.in_ok-better-in-Found.ensures.settled.legal.start) c.arrange.ensures.in_order
+pub returns-in-Stuck-clause-straight : goal.returns-in-Stuck-clause-straight
+returns-in-Stuck-clause-straight c = stuck-straight c.args.site.now _ c.in-Stuck.part c.in-Stuck.turbine c.in-Stuck.is c.in_ok-part.ensures.straight
+
+pub returns-in_ok-settled-in-Found-clause-straight : goal.returns-in_ok-settled-in-Found-clause-straight
+returns-in_ok-settled-in-Found-clause-straight c =
+    found-straight c.args.site.now _ c.in-Found.layout c.in_ok-settled-in-Found.settled.layout c.in-Found.field-1 c.in_ok-settled-in-Found.settled.cost c.in-Found.is
+    (c.in_ok-part.ensures.found c.in-Found.layout c.in-Found.field-1 c.in-Found.is).1 c.in_ok-settled-in-Found.ensures c.in_ok-part.ensures.straight
