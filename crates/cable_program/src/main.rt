@@ -2,24 +2,8 @@
 //! to `run`, whose contract is the promise of the whole program.
 #![tactic(auto)]
 
-mod check;
-mod document;
-mod ending;
-mod fault;
-mod judge;
-mod layout;
-mod notes;
-mod plan;
-mod report;
-mod run;
-mod site;
-#[cfg(test)]
-mod tests;
-mod whole;
-mod words;
-
+use cable_run::run;
 use cable_text::{StdSink, StdSource};
-use run::run;
 use std::process::ExitCode;
 use std::{env, io};
 

@@ -19,7 +19,7 @@ use Rattle.cable_definitions.specs.Site.{Site, IsValid}
 use Rattle.cable_text.specs.Stream.{Gives}
 use Rattle.site_model.specs.declared.fault.SiteFault.{SiteFault}
 use Rattle.site_model.specs.declared.fault.SiteFault.TheVariants.{Refused}
-use Rattle.site_json.specs.Bytes.{IsLineForm, IsJsonFault, IsWholeLineFault}
+use Rattle.run_definitions.specs.Bytes.{IsLineForm, IsJsonFault, IsWholeLineFault}
 
 some_of : {A : Type 0} → (a b : A) → Some a ≡ Some b → a ≡ b
 some_of a b e = cc

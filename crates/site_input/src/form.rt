@@ -1,7 +1,7 @@
 ghost use Rattle.std.specs.Prelude.{◌≡◌, ℕ, ◌≤◌, ◌↔◌, List, Some, None, IsTrue, IfOk, OnOk, OnErr};
 ghost use Rattle.cable_text.specs.Stream.{Rose};
 ghost use Rattle.cable_text.specs.Lines.{ahead};
-ghost use Rattle.site_json.specs.Bytes.{IsLineForm};
+ghost use Rattle.run_definitions.specs.Bytes.{IsLineForm};
 
 use cable_text::{Failed, Lines, Source};
 

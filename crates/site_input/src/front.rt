@@ -2,7 +2,7 @@ ghost use Rattle.std.specs.Prelude.{◌≡◌, ℕ, ◌≤◌, List, Bool, Some,
 ghost use Rattle.cable_definitions.specs.declared.site.SiteCode.{SiteCode as Code};
 ghost use Rattle.cable_definitions.specs.Site.{IsValid};
 ghost use Rattle.cable_text.specs.Stream.{Rose};
-ghost use Rattle.site_json.specs.Bytes.{IsFrontSite, IsFrontFault};
+ghost use Rattle.run_definitions.specs.Bytes.{IsFrontSite, IsFrontFault};
 
 use crate::form::is_in_lines;
 use crate::json::read_json_input;

@@ -3,7 +3,7 @@ ghost use Rattle.cable_definitions.specs.declared.site.SiteCode.{SiteCode as Cod
 ghost use Rattle.cable_definitions.specs.Site.{IsValid};
 ghost use Rattle.cable_text.specs.Stream.{Rose, IsAtEnd};
 ghost use Rattle.cable_text.specs.Lines.{ahead};
-ghost use Rattle.site_json.specs.Bytes.{IsJsonSite, IsJsonFault};
+ghost use Rattle.run_definitions.specs.Bytes.{IsJsonSite, IsJsonFault};
 
 use cable_text::{Lines, RestFault, Source};
 use site_json::read_json;

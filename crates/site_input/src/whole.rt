@@ -4,7 +4,7 @@ ghost use Rattle.cable_definitions.specs.Site.{IsValid};
 ghost use Rattle.cable_text.specs.Stream.{Rose, IsAtEnd};
 ghost use Rattle.cable_text.specs.Lines.{ahead};
 ghost use Rattle.cable_definitions.specs.Document.{IsSiteText};
-ghost use Rattle.site_json.specs.Bytes.{IsSiteOf, IsPlanFault, IsWholeLineFault};
+ghost use Rattle.run_definitions.specs.Bytes.{IsSiteOf, IsPlanFault, IsWholeLineFault};
 
 use crate::form::is_in_lines;
 use crate::json::{read_json_input, refused_at};

@@ -14,8 +14,8 @@ use Rattle.site_laws.proofs.Building.{builds_same, no_fault, item_fault_same}
 use Rattle.site_laws.proofs.Fronts.{no_fault_in_front, one_in_front}
 use Rattle.site_laws.proofs.Pieces.{same_piece}
 use Rattle.site_laws.proofs.Runs.{line_fault_same}
-use Rattle.site_json.specs.Tree.{is_top, raw_items}
-use Rattle.site_json.specs.Bytes.{IsTree, IsJsonSite, IsJsonFault, too_long, unreadable, other_top, of_items, IsLineForm, IsSiteOf, IsFrontSite, IsWholeLineFault, IsPlanFault, IsFrontFault}
+use Rattle.run_definitions.specs.Json.{is_top, raw_items}
+use Rattle.run_definitions.specs.Bytes.{IsTree, IsJsonSite, IsJsonFault, too_long, unreadable, other_top, of_items, IsLineForm, IsSiteOf, IsFrontSite, IsWholeLineFault, IsPlanFault, IsFrontFault}
 
 -- bytes are one tree
 same_tree : (bytes : List ℕ) (d e : Data) → IsTree bytes d → IsTree bytes e → d ≡ e

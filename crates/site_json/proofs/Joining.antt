@@ -5,7 +5,7 @@ use Rattle.serde_json.specs.Find.{as_array}
 use Rattle.serde_json.specs.View.{items_of}
 use Rattle.cable_definitions.specs.declared.site.Version.{Version}
 use Rattle.cable_definitions.specs.Items.{RawItem}
-use Rattle.site_json.specs.Tree.{raw_type, raw_types, raw_point, raw_points, corner_of, raw_corners, raw_obstacle, raw_obstacles, raw_pair, raw_pairs}
+use Rattle.run_definitions.specs.Json.{raw_type, raw_types, raw_point, raw_points, corner_of, raw_corners, raw_obstacle, raw_obstacles, raw_pair, raw_pairs}
 use Rattle.site_json.proofs.Leading.{Joins}
 
 -- the corners of an obstacle, from a list

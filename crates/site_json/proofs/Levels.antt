@@ -5,7 +5,7 @@ use Rattle.serde_json.specs.Data.{Data}
 use Rattle.serde_json.specs.Find.{get, as_array, as_object}
 use Rattle.serde_json.specs.View.{view, items_view, members_view}
 use Rattle.serde_json.specs.declared.value.Value.{Value}
-use Rattle.site_json.specs.Tree.{item_count, member_count, list_from, list_of, members_at, has_all, has_exactly}
+use Rattle.run_definitions.specs.Json.{item_count, member_count, list_from, list_of, members_at, has_all, has_exactly}
 
 -- the members of an array, as they are seen
 pub list_from-items_view : (vs : List Value) → list_from (items_view vs) ≡ map view vs

@@ -7,7 +7,7 @@ use Rattle.serde_json.specs.Find.{get, at, as_array}
 use Rattle.serde_json.specs.View.{items_view}
 use Rattle.serde_json.specs.declared.value.Value.{Value}
 use Rattle.cable_definitions.specs.Items.{RawItem, ACorner, APair, ACharge, Misshapen, fields_of, coordinate}
-use Rattle.site_json.specs.Tree.{whole, text, text_or_none, item_count, has_exactly, raw_pair, corner_of}
+use Rattle.run_definitions.specs.Json.{whole, text, text_or_none, item_count, has_exactly, raw_pair, corner_of}
 use Rattle.site_json.specs.Shapes.{IsMisshapen}
 use Rattle.site_json.proofs.Levels.{item_count-items_view}
 

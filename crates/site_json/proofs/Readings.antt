@@ -4,7 +4,7 @@ use Rattle.serde_json.specs.Data.{Data}
 use Rattle.serde_json.specs.Read.{read}
 use Rattle.std.specs.Prelude.{IsUtf8}
 use Rattle.cable_definitions.specs.declared.site.SiteCode.{SiteCode}
-use Rattle.site_json.specs.Bytes.{IsTree, IsJsonFault}
+use Rattle.run_definitions.specs.Bytes.{IsTree, IsJsonFault}
 
 -- a fault with the code and the place that are said
 pub IsJsonFault-said : (bytes : List ℕ) (found code : SiteCode) (at place : ℕ) → IsJsonFault bytes found at → found ≡ code → at ≡ place → IsJsonFault bytes code place

@@ -9,7 +9,7 @@ use Rattle.serde_json.specs.View.{items_view}
 use Rattle.serde_json.specs.declared.value.Value.{Value}
 use Rattle.cable_definitions.specs.Items.{Draft, RawItem, AnObstacle, IsGood, Adds}
 use Rattle.site_model.specs.declared.fault.SiteFault.{SiteFault}
-use Rattle.site_json.specs.Tree.{raw_obstacle, raw_corners}
+use Rattle.run_definitions.specs.Json.{raw_obstacle, raw_corners}
 use Rattle.site_json.specs.Faults.{Leads}
 use Rattle.site_json.proofs.Levels.{item_count-items_view}
 use Rattle.site_json.proofs.Leading.{Leads-one, Leads-append}

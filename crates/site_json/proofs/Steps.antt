@@ -14,7 +14,7 @@ use Rattle.std.proofs.lemmas.Int.{ints}
 use Rattle.cable_definitions.specs.Items.{Draft, RawItem, RawKind, RawRule, AType, APoint, AnObstacle, ACorner, APair, ATurbine, ASubstation, ABend, ACharge, AClosing, Misshapen, is_settled, may_stand, coordinate, IsGood, Adds, with_corner}
 use Rattle.site_model.specs.Building.{type_item}
 use Rattle.site_model.proofs.Drafts.{IsDraft-adds}
-use Rattle.site_json.specs.Tree.{raw_type, point_with, raw_point, corner_of, raw_pair, item_count, has_exactly, whole, text, text_or_none, is_text, is_true}
+use Rattle.run_definitions.specs.Json.{raw_type, point_with, raw_point, corner_of, raw_pair, item_count, has_exactly, whole, text, text_or_none, is_text, is_true}
 use Rattle.site_json.specs.Progress.{open_items, list_items, IsPlaced, TakesTypes, TakesUpTo, TakesCorners}
 
 -- few items have given a site that has no pair rules

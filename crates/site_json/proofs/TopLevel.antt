@@ -6,7 +6,7 @@ use Rattle.serde_json.specs.Data.{Data}
 use Rattle.serde_json.specs.Find.{get, as_object}
 use Rattle.serde_json.specs.View.{members_view}
 use Rattle.serde_json.specs.declared.value.Value.{Value}
-use Rattle.site_json.specs.Tree.{has_all, has_exactly, keys_there, are_arrays, is_top}
+use Rattle.run_definitions.specs.Json.{has_all, has_exactly, keys_there, are_arrays, is_top}
 use Rattle.site_json.proofs.Levels.{has_exactly-counted}
 
 there_is : (b : Bool) (k : List ℕ) (ks : List (List ℕ)) (d : Data) → is_some (get k d) ≡ b → has_all ks d ≡ true → has_all (cond b (k ∷ ks) ks) d ≡ true

@@ -15,7 +15,7 @@ use Rattle.cable_definitions.specs.Items.{Draft, RawItem, AVersion, AMode, TheEn
 use Rattle.site_model.specs.Drafts.{item_of_version}
 use Rattle.site_model.specs.declared.fault.SiteFault.{SiteFault}
 use Rattle.site_model.proofs.Drafts.{IsDraft-begins, IsValid-draft}
-use Rattle.site_json.specs.Tree.{whole, mode_of, version_of, raw_types, some_types, raw_points, raw_obstacles, raw_pairs, members_at, raw_items}
+use Rattle.run_definitions.specs.Json.{whole, mode_of, version_of, raw_types, some_types, raw_points, raw_obstacles, raw_pairs, members_at, raw_items}
 use Rattle.site_json.specs.Faults.{Leads, Fails, listed, Gives}
 use Rattle.site_json.specs.Progress.{TakesTypes, TakesUpTo}
 use Rattle.site_json.proofs.Codes.{IsGood-version, IsGood-mode, IsFirstCode-mode}

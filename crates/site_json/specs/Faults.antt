@@ -9,7 +9,7 @@ use Rattle.site_model.specs.declared.fault.BuildFault.{BuildFault}
 use Rattle.site_model.specs.declared.fault.BuildFault.TheVariants.{Refused as RefusedItem, Memory as NoRoom}
 use Rattle.site_model.specs.declared.fault.SiteFault.{SiteFault}
 use Rattle.site_model.specs.declared.fault.SiteFault.TheVariants.{Refused, Memory}
-use Rattle.site_json.specs.Tree.{members_at, some_types, raw_points, raw_obstacles, raw_pairs}
+use Rattle.run_definitions.specs.Json.{members_at, some_types, raw_points, raw_obstacles, raw_pairs}
 
 -- the items are good and lead from the one site so far to the other; `before` and `after` count the items up to each
 pub record Leads (d : Draft) (before : ℕ) (items : List RawItem) (e : Draft) (after : ℕ) : Type 0 where

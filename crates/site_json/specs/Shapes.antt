@@ -3,7 +3,7 @@ use Rattle.std.specs.Prelude.{IsTrue, All, IsSome, cond, is_some, codes}
 use Rattle.serde_json.specs.Data.{Data}
 use Rattle.serde_json.specs.Find.{get}
 use Rattle.cable_definitions.specs.Items.{RawItem, RawKind, APoint, Misshapen, is_readable, fields_of}
-use Rattle.site_json.specs.Tree.{whole, text, text_or_none}
+use Rattle.run_definitions.specs.Json.{whole, text, text_or_none}
 
 -- the item can't be read, or one of its numbers is none
 abbrev pub IsMisshapen : RawItem → Type 0

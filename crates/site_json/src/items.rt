@@ -6,7 +6,7 @@ ghost use Rattle.serde_json.specs.View.{view};
 ghost use Rattle.cable_definitions.specs.declared.site.Version.TheVariants.{One, Two};
 ghost use Rattle.cable_definitions.specs.Items.{ATurbine, ASubstation, ABend, ACorner};
 ghost use Rattle.site_model.specs.Building.{type_item, point_item, pair_item, kind_item};
-ghost use Rattle.site_json.specs.Tree.{whole, raw_type, point_with, raw_point, corner_of, raw_pair};
+ghost use Rattle.run_definitions.specs.Json.{whole, raw_type, point_with, raw_point, corner_of, raw_pair};
 ghost use Rattle.site_json.specs.Shapes.{IsMisshapen, named_point};
 
 use crate::members::{has_exactly, is_text_at, is_true_at, text_at, whole, whole_at};

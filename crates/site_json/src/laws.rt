@@ -3,7 +3,7 @@
 ghost use Rattle.std.specs.Prelude.{◌≡◌, ℕ, List};
 ghost use Rattle.cable_definitions.specs.declared.site.SiteCode.{SiteCode};
 ghost use Rattle.cable_definitions.specs.Site.{Site};
-ghost use Rattle.site_json.specs.Bytes.{IsJsonSite, IsJsonFault, IsSiteOf, IsPlanFault, IsFrontSite, IsFrontFault};
+ghost use Rattle.run_definitions.specs.Bytes.{IsJsonSite, IsJsonFault, IsSiteOf, IsPlanFault, IsFrontSite, IsFrontFault};
 
 /// Bytes that are a JSON site have no fault.
 pub fn json_sites_have_no_fault()

@@ -5,8 +5,8 @@ ghost use Rattle.std.specs.Prelude.{◌≡◌, ◌≢◌, ℕ, Bool, Err, IfOk, 
 ghost use Rattle.serde_json.specs.View.{view};
 ghost use Rattle.cable_definitions.specs.declared.site.SiteCode.{SiteCode};
 ghost use Rattle.cable_definitions.specs.Items.{empty_draft};
-ghost use Rattle.site_json.specs.Tree.{raw_items};
-ghost use Rattle.site_json.specs.Bytes.{IsJsonSite, IsJsonFault};
+ghost use Rattle.run_definitions.specs.Json.{raw_items};
+ghost use Rattle.run_definitions.specs.Bytes.{IsJsonSite, IsJsonFault};
 ghost use Rattle.site_json.specs.Faults.{Fails, Gives};
 
 mod items;

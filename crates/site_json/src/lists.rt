@@ -4,7 +4,7 @@ ghost use Rattle.std.specs.Prelude.{◌≡◌, ◌≢◌, ℕ, ◌+◌, ◌-◌,
 ghost use Rattle.serde_json.specs.Find.{as_array};
 ghost use Rattle.serde_json.specs.View.{view};
 ghost use Rattle.cable_definitions.specs.declared.site.SiteCode.{SiteCode};
-ghost use Rattle.site_json.specs.Tree.{raw_type, raw_point, corner_of, raw_obstacle, raw_pair, raw_types, raw_points, raw_corners, raw_obstacles, raw_pairs};
+ghost use Rattle.run_definitions.specs.Json.{raw_type, raw_point, corner_of, raw_obstacle, raw_pair, raw_types, raw_points, raw_corners, raw_obstacles, raw_pairs};
 ghost use Rattle.serde_json.specs.View.{items_view};
 ghost use Rattle.site_json.specs.Faults.{Leads, Fails, fault_at, listed};
 ghost use Rattle.site_json.specs.Progress.{TakesTypes, TakesUpTo, TakesCorners};

@@ -3,7 +3,7 @@
 ghost use Rattle.std.specs.Prelude.{◌≡◌, ◌+◌, ◌<◌, ◌^◌, option_map, option_and_then, map, length};
 ghost use Rattle.serde_json.specs.Find.{get, as_bool};
 ghost use Rattle.serde_json.specs.View.{view};
-ghost use Rattle.site_json.specs.Tree.{whole, text, is_same_text, is_text, has_all, has_exactly, members_at, are_arrays, is_array_or_none, is_true, keys_there};
+ghost use Rattle.run_definitions.specs.Json.{whole, text, is_same_text, is_text, has_all, has_exactly, members_at, are_arrays, is_array_or_none, is_true, keys_there};
 
 use serde_json::Value;
 

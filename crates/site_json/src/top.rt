@@ -6,7 +6,7 @@ ghost use Rattle.serde_json.specs.View.{view};
 ghost use Rattle.cable_definitions.specs.Site.{version_number, latest_version};
 ghost use Rattle.cable_definitions.specs.Items.{AVersion, empty_draft, IsFirstCode};
 ghost use Rattle.site_model.specs.Drafts.{item_of_version};
-ghost use Rattle.site_json.specs.Tree.{whole, is_top, mode_of};
+ghost use Rattle.run_definitions.specs.Json.{whole, is_top, mode_of};
 
 use crate::members::{are_arrays, count_there, has_all, is_text_at, whole_at};
 use serde_json::Value;

@@ -13,7 +13,7 @@ use Rattle.layout_laws.proofs.Typing.{all-at}
 use Rattle.proof_laws.specs.Decided.{HasPointRows}
 use Rattle.proof_laws.proofs.FullLemma.{row_at-formed, within-turbine}
 use Rattle.proof_laws.proofs.NoArc.{out-without_arcs}
-use Rattle.tree_search.specs.Found.{IsHopeless}
+use Rattle.run_definitions.specs.Plan.{HasIsolatedTurbine}
 use Rattle.tree_search.specs.PointRows.{point_row}
 use Rattle.tree_search.specs.Chosen.{IsAlive, IsChosen}
 use Rattle.tree_search.specs.Progress.{IsHeldBack}
@@ -21,7 +21,7 @@ use Rattle.tree_search.proofs.OpenNodes.{open_after}
 
 -- of each node some reason is true there
 dead_somehow : (s : Site) (arcs : List Arc) (rows : List Row) (marks : List Mark) (bound : ℕ) → IsValid s → AreArcs s arcs → length marks ≡ length arcs → HasPointRows s arcs rows
-    → IsHopeless s → IsAlive s arcs rows marks bound → ⊥
+    → HasIsolatedTurbine s → IsAlive s arcs rows marks bound → ⊥
 dead_somehow s arcs rows marks bound valid are same has hopeless alive =
     let p : ℕ = hopeless.0 in
     let listed = has (point_row Out p) (inl refl) (row_at-formed s arcs Out p (λ e. cc) (λ e. cc) (within-turbine s p hopeless.1) hopeless.1) in

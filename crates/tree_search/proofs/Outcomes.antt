@@ -18,7 +18,8 @@ use Rattle.layout_laws.proofs.Typing.{all-at}
 use Rattle.proof_laws.proofs.Lists.{any_at}
 use Rattle.proof_laws.proofs.Sound.{IsSound, sound-accepted, least-sound, none-sound}
 use Rattle.proof_laws.proofs.WorkCounts.{works-below}
-use Rattle.tree_search.specs.Found.{IsHopeless, IsOutcome}
+use Rattle.run_definitions.specs.Plan.{HasIsolatedTurbine}
+use Rattle.tree_search.specs.Found.{IsOutcome}
 use Rattle.tree_search.specs.Chosen.{IsBeaten}
 use Rattle.tree_search.specs.Progress.{kept_of, one_if_unworked, unworked_count, AreOpen, IsBest, IsKnown, IsStuckPart, IsSearching, IsSpent, IsClaimedOf, IsSettledClaim}
 use Rattle.tree_search.specs.declared.progress.Progress.{Progress}
@@ -63,7 +64,7 @@ not-enough s arcs n p searching spent left enough =
     omega (arith, all, below, enough)
 
 -- and an arc leads out of each turbine
-not-hopeless : (s : Site) (arcs : List Arc) (n : ℕ) (p : Progress) → IsSearching s arcs n p → IsSpent p → IsLeft p → IsHopeless s → ⊥
+not-hopeless : (s : Site) (arcs : List Arc) (n : ℕ) (p : Progress) → IsSearching s arcs n p → IsSpent p → IsLeft p → HasIsolatedTurbine s → ⊥
 not-hopeless s arcs n p searching spent left hopeless =
     let all = spent-all s arcs n p searching spent left in
     let few = searching.held_back hopeless in
@@ -206,7 +207,7 @@ outcome-best s arcs n p cables first bound claim searching spent least known set
     below : (b : ℕ) → IsBeaten p.known b → best ≤ b
     below b h = (let l : first ≤ b = subst (λ (o : Option ℕ). IsBeaten o b) known h in let m = no_more in omega (arith, l, m))
 
-    some : IsHopeless s → ⊥
+    some : HasIsolatedTurbine s → ⊥
     some no_way = HasNone-no_arc s no_way.0 no_way.1 no_way.2 cables is_best.legal
 
     left : bound < best → IsLeft p

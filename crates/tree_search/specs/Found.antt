@@ -1,44 +1,19 @@
 -- What a search finds, and what it has written where it stops early.
-use Rattle.std.specs.Prelude.{◌≡◌, ℕ, ◌^◌, ◌<◌, ◌≤◌, List, Some, Option, map, AllPairs, IsTrue}
+use Rattle.std.specs.Prelude.{◌≡◌, ℕ, ◌^◌, ◌<◌, ◌≤◌, List, Some, Option, map, AllPairs}
 use Rattle.std.specs.List.{concat}
 use Rattle.cable_definitions.specs.declared.cable.Cable.{Cable}
 use Rattle.cable_definitions.specs.declared.cable.Arc.{Arc}
 use Rattle.cable_definitions.specs.declared.claim.Claim.{Claim}
-use Rattle.cable_definitions.specs.declared.claim.Claim.TheVariants.{Optimal, Gap, Partial, Infeasible}
+use Rattle.cable_definitions.specs.declared.claim.Claim.TheVariants.{Partial, Infeasible}
 use Rattle.cable_definitions.specs.Site.{Site}
-use Rattle.cable_definitions.specs.Arcs.{IsCandidate, kind_of, is_turbine}
 use Rattle.cable_definitions.specs.Layout.{IsLegal, cost}
-use Rattle.cable_definitions.specs.Part.{IsSettled, IsStraight}
+use Rattle.cable_definitions.specs.Part.{IsStraight}
 use Rattle.cable_definitions.specs.Budget.{IsNearest, enough_budget}
 use Rattle.cable_definitions.specs.Tree.{WasFull, Node, Item, Kept, node_of, IsAccepted, Agrees}
 use Rattle.cable_definitions.specs.Text.{item_lines}
 use Rattle.cable_definitions.specs.Built.{AreBuilt}
 use Rattle.cable_text.specs.Stream.{Appends, AppendsPrefix}
-
--- the claim says that a layout is the cheapest, or that there is none
-abbrev pub IsFinal : Claim → Type 0
-IsFinal (Optimal best) = Unit {0}
-IsFinal (Gap best bound) = ⊥
-IsFinal (Partial bound stuck) = ⊥
-IsFinal Infeasible = Unit {0}
-
--- the claim is of a layout that costs at most this
-abbrev pub CostsAtMost : ℕ → Claim → Type 0
-CostsAtMost most (Optimal best) = best ≤ most
-CostsAtMost most (Gap best bound) = best ≤ most
-CostsAtMost most (Partial bound stuck) = ⊥
-CostsAtMost most Infeasible = ⊥
-
--- the layout of a claim with a cost is settled
-abbrev pub IsSettledFor : Site → List Cable → Claim → Type 0
-IsSettledFor s cables (Optimal best) = IsSettled s cables
-IsSettledFor s cables (Gap best bound) = IsSettled s cables
-IsSettledFor s cables (Partial bound stuck) = Unit {0}
-IsSettledFor s cables Infeasible = Unit {0}
-
--- no candidate arc leads out of some turbine
-abbrev pub IsHopeless : Site → Type 0
-IsHopeless s = (p : ℕ) × IsTrue (is_turbine (kind_of s p)) × ((q : ℕ) → ¬ (IsCandidate s p q))
+use Rattle.run_definitions.specs.Plan.{IsFinal, CostsAtMost, IsSettledFor, HasIsolatedTurbine}
 
 -- each made node's bound is at least this
 abbrev pub AreAbove : ℕ → List Node → Type 0
@@ -52,7 +27,7 @@ pub record IsOutcome (s : Site) (arcs : List Arc) (n : ℕ) (kept : Kept) (cable
   pub in_order : AllPairs (λ c d. c.from < d.from) cables
   pub agrees : Agrees s n kept cables claim
   pub closed : enough_budget arcs ≤ n → IsFinal claim
-  pub hopeless : IsHopeless s → claim ≡ Infeasible
+  pub hopeless : HasIsolatedTurbine s → claim ≡ Infeasible
   pub settled : IsSettledFor s cables claim
   pub straight : (straight : List Cable) → IsStraight s straight → IsLegal s straight → CostsAtMost (cost s straight) claim
   pub full : (v : ℕ) (node : Node) → node_of kept.nodes v ≡ Some node → node.status ≡ WasFull → CostsAtMost node.bound claim

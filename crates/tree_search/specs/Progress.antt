@@ -17,7 +17,8 @@ use Rattle.proof_laws.specs.Decided.{HasPointRows}
 use Rattle.branch_tree.specs.State.{new_tree}
 use Rattle.tree_search.specs.declared.progress.Progress.{Progress}
 use Rattle.tree_search.specs.Chosen.{IsBeaten}
-use Rattle.tree_search.specs.Found.{AreAbove, IsHopeless}
+use Rattle.run_definitions.specs.Plan.{HasIsolatedTurbine}
+use Rattle.tree_search.specs.Found.{AreAbove}
 
 -- what the search keeps of its items
 abbrev pub kept_of : Progress → Kept
@@ -74,7 +75,7 @@ AreCapped s arcs nodes = (v : ℕ) (node : Node) → node_of nodes v ≡ Some no
 
 -- where no arc leads out of some turbine, node 1 is all that was made, and no node is open once it is worked
 abbrev pub IsHeldBack : Site → ℕ → ℕ → Type 0
-IsHeldBack s works open_count = IsHopeless s → open_count + works ≤ 1
+IsHeldBack s works open_count = HasIsolatedTurbine s → open_count + works ≤ 1
 
 -- no made node's bound is below the sum of the least costs out of the turbines, once a work is done
 abbrev pub IsFloored : Site → ℕ → List Node → Type 0

@@ -2,8 +2,8 @@ use Rattle.std.proofs.Common.{sym, ◌∙◌}
 use Rattle.std.proofs.lemmas.Bool.{false≢true}
 use Rattle.serde_json.specs.View.{view}
 use Rattle.cable_definitions.specs.declared.site.SiteCode.TheVariants.{TooLong, Form, Shape}
-use Rattle.site_json.specs.Tree.{raw_items}
-use Rattle.site_json.specs.Bytes.{too_long, unreadable, other_top, of_items}
+use Rattle.run_definitions.specs.Json.{raw_items}
+use Rattle.run_definitions.specs.Bytes.{too_long, unreadable, other_top, of_items}
 use Rattle.site_json.proofs.Leading.{IsItemFault-all}
 use Rattle.site_json.proofs.Refusing.{refused_is}
 use Rattle.site_json.proofs.Readings.{IsJsonFault-said, not_tree}

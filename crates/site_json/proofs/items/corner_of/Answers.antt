@@ -2,7 +2,7 @@ use Rattle.std.proofs.Common.{◌≡◌, None, Some, lit<, length, sym, ◌∙�
 use Rattle.serde_json.specs.Find.{at, as_array}
 use Rattle.serde_json.specs.View.{view}
 use Rattle.cable_definitions.specs.Items.{ACorner}
-use Rattle.site_json.specs.Tree.{whole, corner_of}
+use Rattle.run_definitions.specs.Json.{whole, corner_of}
 use Rattle.site_json.proofs.Misshapen.{at_none, misshapen_at, misshapen_length, misshapen_corner, corner_of-two}
 use Rattle.site_json.proofs.items.corner_of.Goals as goal
 

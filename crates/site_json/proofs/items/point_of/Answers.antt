@@ -4,7 +4,7 @@ use Rattle.serde_json.specs.Find.{get}
 use Rattle.serde_json.specs.View.{view}
 use Rattle.cable_definitions.specs.Items.{APoint}
 use Rattle.site_model.specs.Building.{kind_item}
-use Rattle.site_json.specs.Tree.{whole, text, text_or_none}
+use Rattle.run_definitions.specs.Json.{whole, text, text_or_none}
 use Rattle.site_json.proofs.Misshapen.{at_none, misshapen_in, misshapen_same}
 use Rattle.site_json.proofs.items.point_of.Goals as goal
 

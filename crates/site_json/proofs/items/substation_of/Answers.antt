@@ -3,7 +3,7 @@ use Rattle.std.specs.Prelude.{codes, is_some, ◌&&◌}
 use Rattle.serde_json.specs.Find.{get}
 use Rattle.serde_json.specs.View.{view}
 use Rattle.cable_definitions.specs.Items.{APoint, ASubstation}
-use Rattle.site_json.specs.Tree.{whole, text, text_or_none, has_exactly}
+use Rattle.run_definitions.specs.Json.{whole, text, text_or_none, has_exactly}
 use Rattle.site_json.proofs.Misshapen.{at_none, misshapen_in}
 use Rattle.site_json.proofs.items.substation_of.Goals as goal
 

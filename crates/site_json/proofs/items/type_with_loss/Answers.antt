@@ -3,7 +3,7 @@ use Rattle.std.specs.Prelude.{codes}
 use Rattle.serde_json.specs.Find.{get}
 use Rattle.serde_json.specs.View.{view}
 use Rattle.cable_definitions.specs.Items.{AType}
-use Rattle.site_json.specs.Tree.{whole, has_exactly}
+use Rattle.run_definitions.specs.Json.{whole, has_exactly}
 use Rattle.site_json.proofs.Misshapen.{at_none, misshapen_in}
 use Rattle.site_json.proofs.items.type_with_loss.Goals as goal
 

@@ -6,7 +6,7 @@ use Rattle.cable_definitions.specs.Items.{RawItem, ACorner, IsFirstCode, IsGood,
 use Rattle.site_model.specs.declared.fault.BuildFault.{BuildFault}
 use Rattle.site_model.specs.declared.fault.BuildFault.TheVariants.{Refused as RefusedItem}
 use Rattle.site_model.proofs.Ranges.{passed_two}
-use Rattle.site_json.specs.Tree.{corner_of}
+use Rattle.run_definitions.specs.Json.{corner_of}
 use Rattle.site_json.specs.Faults.{Leads}
 use Rattle.site_json.proofs.Leading.{Leads-one}
 use Rattle.site_json.proofs.Steps.{stands_corner, TakesCorners-more, TakesCorners-same}

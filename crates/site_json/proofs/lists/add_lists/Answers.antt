@@ -4,7 +4,7 @@ use Rattle.std.proofs.lemmas.Result.{err_from_is_err_and}
 use Rattle.serde_json.specs.Data.{Data}
 use Rattle.serde_json.specs.View.{view}
 use Rattle.cable_definitions.specs.Items.{RawItem, Stray, IsFirstCode}
-use Rattle.site_json.specs.Tree.{raw_types, raw_points, raw_obstacles, raw_pairs}
+use Rattle.run_definitions.specs.Json.{raw_types, raw_points, raw_obstacles, raw_pairs}
 use Rattle.site_json.specs.Faults.{Leads, Fails}
 use Rattle.cable_definitions.specs.declared.site.SiteCode.TheVariants.{Form}
 use Rattle.site_json.proofs.Codes.{IsFirstCode-stray}

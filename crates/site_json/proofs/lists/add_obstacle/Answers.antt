@@ -7,7 +7,7 @@ use Rattle.cable_definitions.specs.declared.site.SiteCode.{SiteCode}
 use Rattle.cable_definitions.specs.Items.{RawItem, AnObstacle, Misshapen, IsFirstCode, IsGood, Adds}
 use Rattle.site_model.specs.declared.fault.BuildFault.{BuildFault}
 use Rattle.site_model.specs.declared.fault.BuildFault.TheVariants.{Refused as RefusedItem}
-use Rattle.site_json.specs.Tree.{raw_obstacle, raw_corners}
+use Rattle.run_definitions.specs.Json.{raw_obstacle, raw_corners}
 use Rattle.site_json.specs.Faults.{Fails}
 use Rattle.site_json.proofs.Misshapen.{misshapen_shape}
 use Rattle.site_json.proofs.Leading.{Leads-one, Fails-front, Fails-behind}

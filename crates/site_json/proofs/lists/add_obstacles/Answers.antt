@@ -1,7 +1,7 @@
 use Rattle.std.proofs.lemmas.Result.{err_from_is_err_and}
 use Rattle.serde_json.specs.Find.{as_array}
 use Rattle.serde_json.specs.View.{view}
-use Rattle.site_json.specs.Tree.{raw_obstacle, raw_obstacles}
+use Rattle.run_definitions.specs.Json.{raw_obstacle, raw_obstacles}
 use Rattle.site_json.proofs.Leading.{Leads-more, Leads-end, Fails-more, Fails-front}
 use Rattle.site_json.proofs.Joining.{joins_obstacles}
 use Rattle.site_json.proofs.Refusing.{passed_on}

@@ -1,6 +1,6 @@
 use Rattle.std.proofs.Common.{map, take}
 use Rattle.serde_json.specs.View.{view}
-use Rattle.site_json.specs.Tree.{raw_obstacles}
+use Rattle.run_definitions.specs.Json.{raw_obstacles}
 use Rattle.site_json.specs.Faults.{Leads}
 use Rattle.site_json.specs.Progress.{TakesUpTo}
 use Rattle.site_json.proofs.lists.add_obstacles.Given as goal

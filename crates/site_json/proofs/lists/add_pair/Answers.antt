@@ -5,7 +5,7 @@ use Rattle.cable_definitions.specs.Items.{RawItem, IsFirstCode}
 use Rattle.site_model.specs.declared.fault.BuildFault.{BuildFault}
 use Rattle.site_model.specs.declared.fault.BuildFault.TheVariants.{Refused as RefusedItem}
 use Rattle.site_model.specs.Building.{pair_item}
-use Rattle.site_json.specs.Tree.{raw_pair}
+use Rattle.run_definitions.specs.Json.{raw_pair}
 use Rattle.site_json.proofs.Steps.{stands_pair, TakesUpTo-pair}
 use Rattle.site_json.proofs.Refusing.{Fails-shape, Fails-built}
 use Rattle.site_json.proofs.lists.add_pair.Goals as goal

@@ -6,7 +6,7 @@ use Rattle.site_model.specs.declared.fault.BuildFault.{BuildFault}
 use Rattle.site_model.specs.declared.fault.BuildFault.TheVariants.{Refused as RefusedItem}
 use Rattle.site_model.specs.Building.{point_item}
 use Rattle.site_model.proofs.Ranges.{passed_two}
-use Rattle.site_json.specs.Tree.{raw_point}
+use Rattle.run_definitions.specs.Json.{raw_point}
 use Rattle.site_json.specs.Faults.{Leads}
 use Rattle.site_json.proofs.Leading.{Leads-one}
 use Rattle.site_json.proofs.Steps.{stands_point, TakesUpTo-point}

@@ -1,6 +1,6 @@
 use Rattle.std.proofs.Common.{◌+◌}
 use Rattle.std.proofs.lemmas.Result.{err_from_is_err_and}
-use Rattle.site_json.specs.Tree.{raw_points}
+use Rattle.run_definitions.specs.Json.{raw_points}
 use Rattle.site_json.proofs.Leading.{Leads-more, Fails-more}
 use Rattle.site_json.proofs.Joining.{joins_points}
 use Rattle.site_json.proofs.Refusing.{passed_on}

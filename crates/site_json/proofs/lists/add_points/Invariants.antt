@@ -1,6 +1,6 @@
 use Rattle.std.proofs.Common.{map, take}
 use Rattle.serde_json.specs.View.{view}
-use Rattle.site_json.specs.Tree.{raw_points}
+use Rattle.run_definitions.specs.Json.{raw_points}
 use Rattle.site_json.specs.Faults.{Leads}
 use Rattle.site_json.specs.Progress.{TakesUpTo}
 use Rattle.site_json.proofs.lists.add_points.Given as goal

@@ -7,7 +7,7 @@ use Rattle.site_model.specs.declared.fault.BuildFault.{BuildFault}
 use Rattle.site_model.specs.declared.fault.BuildFault.TheVariants.{Refused as RefusedItem}
 use Rattle.site_model.specs.Building.{type_item}
 use Rattle.site_model.proofs.Ranges.{passed_two}
-use Rattle.site_json.specs.Tree.{raw_type}
+use Rattle.run_definitions.specs.Json.{raw_type}
 use Rattle.site_json.proofs.Steps.{stands_type, TakesTypes-more}
 use Rattle.site_json.proofs.Refusing.{Fails-shape, Fails-built}
 use Rattle.site_json.proofs.lists.add_type.Goals as goal

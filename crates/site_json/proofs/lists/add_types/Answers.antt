@@ -1,6 +1,6 @@
 use Rattle.std.proofs.Common.{◌+◌, arith}
 use Rattle.std.proofs.lemmas.Result.{err_from_is_err_and}
-use Rattle.site_json.specs.Tree.{raw_types}
+use Rattle.run_definitions.specs.Json.{raw_types}
 use Rattle.site_json.proofs.Leading.{Leads-more, Fails-more}
 use Rattle.site_json.proofs.Joining.{joins_types}
 use Rattle.site_json.proofs.Refusing.{passed_on}

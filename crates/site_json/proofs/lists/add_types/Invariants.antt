@@ -1,6 +1,6 @@
 use Rattle.std.proofs.Common.{◌≡◌, ◌≤◌, length, map, take}
 use Rattle.serde_json.specs.View.{view}
-use Rattle.site_json.specs.Tree.{raw_types}
+use Rattle.run_definitions.specs.Json.{raw_types}
 use Rattle.site_json.specs.Faults.{Leads}
 use Rattle.site_json.specs.Progress.{TakesTypes}
 use Rattle.site_json.proofs.lists.add_types.Given as goal

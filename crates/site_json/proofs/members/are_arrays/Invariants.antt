@@ -1,6 +1,6 @@
 use Rattle.std.proofs.Common.{◌≡◌, map, drop}
 use Rattle.serde_json.specs.View.{view}
-use Rattle.site_json.specs.Tree.{are_arrays}
+use Rattle.run_definitions.specs.Json.{are_arrays}
 use Rattle.site_json.proofs.members.are_arrays.Given as goal
 
 abbrev pub invariant-loop-key : goal.invariant-loop-key

@@ -1,6 +1,6 @@
 use Rattle.std.proofs.Common.{◌≡◌, ◌+◌, ◌≤◌, map, drop, length}
 use Rattle.serde_json.specs.View.{view}
-use Rattle.site_json.specs.Tree.{keys_there}
+use Rattle.run_definitions.specs.Json.{keys_there}
 use Rattle.site_json.proofs.members.count_there.Given as goal
 
 abbrev pub invariant-loop-key : goal.invariant-loop-key

@@ -1,6 +1,6 @@
 use Rattle.std.proofs.Common.{◌≡◌, map, drop}
 use Rattle.serde_json.specs.View.{view}
-use Rattle.site_json.specs.Tree.{has_all}
+use Rattle.run_definitions.specs.Json.{has_all}
 use Rattle.site_json.proofs.members.has_all.Given as goal
 
 abbrev pub invariant-loop-key : goal.invariant-loop-key

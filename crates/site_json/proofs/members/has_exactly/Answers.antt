@@ -1,7 +1,7 @@
 use Rattle.std.proofs.Common.{map, ◌≡◌, true}
 use Rattle.std.proofs.Math.ListN.{length-map}
 use Rattle.serde_json.specs.View.{view}
-use Rattle.site_json.specs.Tree.{has_all}
+use Rattle.run_definitions.specs.Json.{has_all}
 use Rattle.site_json.proofs.Levels.{has_exactly-counted}
 use Rattle.site_json.proofs.members.has_exactly.Goals as goal
 

@@ -1,0 +1,198 @@
+-- The text of a plan from its parts, and what its writers ask for.
+use Rattle.std.proofs.Common.{◌≡◌, ℕ, suc, ◌<◌, ◌≤◌, inl, inr, List, [], ◌∷◌, ◌++◌, length, map, get_or, Option, refl, sym, ap, ◌∙◌, subst, append_assoc, arith}
+use Rattle.std.specs.Prelude.{◌^◌, IsTrue, All, AllPairs, codes}
+use Rattle.std.specs.List.{concat}
+use Rattle.std.specs.Fmt.{decimal}
+use Rattle.std.proofs.lemmas.List.Sums.{sum_by-le}
+use Rattle.std.proofs.lemmas.Option.{slice_get-get_or}
+use Rattle.cable_definitions.specs.declared.cable.Cable.{Cable}
+use Rattle.cable_definitions.specs.declared.cable.Arc.{Arc}
+use Rattle.cable_definitions.specs.declared.claim.Claim.{Claim}
+use Rattle.cable_definitions.specs.declared.claim.Claim.TheVariants.{Optimal, Gap, Partial, Infeasible}
+use Rattle.cable_definitions.specs.Site.{Site, IsValid}
+use Rattle.cable_definitions.specs.Arcs.{AreArcs, cost_of}
+use Rattle.cable_definitions.specs.Walk.{load}
+use Rattle.cable_definitions.specs.declared.cable.Rule.TheVariants.{Range}
+use Rattle.cable_definitions.specs.Layout.{IsLegal, cost}
+use Rattle.cable_definitions.specs.Part.{IsGrown}
+use Rattle.cable_definitions.specs.Budget.{IsNearest}
+use Rattle.cable_definitions.specs.Tree.{Node, Item, Kept, is_open_leaf, IsLeastBound, IsAccepted, LayoutAgrees, nothing_kept}
+use Rattle.cable_definitions.specs.Text.{line, site_lines, item_lines, cable_line, claim_line, document_text}
+use Rattle.cable_definitions.specs.Document.{IsClaimInRange}
+use Rattle.cable_text.specs.Stream.{Appends, AppendsPrefix}
+use Rattle.cable_text.proofs.Writing.{Appends-then, AppendsPrefix-front, AppendsPrefix-then}
+use Rattle.layout_meaning.proofs.Costing.{cost_small, load_small_at}
+use Rattle.document_laws.proofs.Counting.{cables-most}
+use Rattle.proof_laws.proofs.Lists.{any_at}
+use Rattle.proof_laws.proofs.FullLemma.{within-turbine}
+use Rattle.proof_laws.proofs.Sound.{sound-accepted, says-sound}
+use Rattle.proof_lines.specs.Written.{IsCableOf, IsClaimOf, layout_text}
+use Rattle.tree_search.specs.Found.{IsOutcome, FindsPlan, WritesPart}
+use Rattle.run_definitions.specs.Effect.{Effect}
+use Rattle.run_definitions.specs.Plan.{IsAtLeastFirstCables, IsPlan, IsPlanBegun}
+use Rattle.run_definitions.specs.Ends.{IsRead, PrintsPlan, PrintsPart}
+
+-- ---- parts of the text
+-- what stands before the items
+abbrev pub head_text : Site → ℕ → List ℕ
+head_text s n = site_lines s ++ line (codes "budget" ∷ decimal n ∷ [])
+
+-- what stands behind them
+abbrev pub tail_text : Site → List Cable → Claim → List ℕ
+tail_text s cables claim = layout_text s cables ++ (claim_line s claim ++ line (codes "end" ∷ codes "document" ∷ []))
+
+joined : (h i l c v e : List ℕ) → ((((h ++ i) ++ l) ++ c) ++ v) ++ e ≡ (h ++ i) ++ ((l ++ c) ++ (v ++ e))
+joined h i l c v e = append_assoc (((h ++ i) ++ l) ++ c) v e ∙ (ap (λ x. x ++ (v ++ e)) (append_assoc (h ++ i) l c) ∙ append_assoc (h ++ i) (l ++ c) (v ++ e))
+
+-- a document is what stands before its items, the items, and what stands behind them
+document_parts : (s : Site) (n : ℕ) (items : List Item) (cables : List Cable) (claim : Claim)
+    → document_text s n items cables claim ≡ (head_text s n ++ concat (map item_lines items)) ++ tail_text s cables claim
+document_parts s n items cables claim =
+    joined (head_text s n) (concat (map item_lines items)) (line (codes "layout" ∷ decimal (length cables) ∷ [])) (concat (map (cable_line s) cables)) (claim_line s claim)
+    (line (codes "end" ∷ codes "document" ∷ []))
+
+-- ---- what the writers ask for
+-- the cables of a legal layout have their ends among the points
+cables_of_legal : (s : Site) (cables : List Cable) → IsLegal s cables → All (IsCableOf s) cables
+cables_of_legal s cables legal k d h =
+    let at = slice_get-get_or cables k d h in
+    record { from = (legal.range k).from (get_or cables k d) at; to = (legal.range k).to (get_or cables k d) at }
+
+-- so do those of a grown part
+cables_of_grown : (s : Site) (cables : List Cable) → IsGrown s cables → All (IsCableOf s) cables
+cables_of_grown s cables grown k d h =
+    let at = slice_get-get_or cables k d h in
+    let range = grown Range k 0 (λ e. cc) in
+    record { from = range.from (get_or cables k d) at; to = range.to (get_or cables k d) at }
+
+no_cables : (s : Site) (cables : List Cable) → cables ≡ [] → All (IsCableOf s) cables
+no_cables s cables e = let P : List Cable → Type 0 = λ xs. All (IsCableOf s) xs in subst P (sym e) (λ k d h. absurd (omega (arith, h)))
+
+cables_agree : (s : Site) (cables : List Cable) (claim : Claim) → LayoutAgrees s cables claim → All (IsCableOf s) cables
+cables_agree s cables (Optimal cost) a = cables_of_legal s cables a.0
+cables_agree s cables (Gap cost bound) a = cables_of_legal s cables a.0
+cables_agree s cables (Partial bound stuck) a = cables_of_grown s cables a.grown
+cables_agree s cables Infeasible a = no_cables s cables a
+
+-- the cables that were found have their ends among the points
+pub cables_found : (s : Site) (arcs : List Arc) (n : ℕ) (before after : Option (List ℕ)) (cables : List Cable) (claim : Claim) → FindsPlan s arcs n before after cables claim → All (IsCableOf s) cables
+cables_found s arcs n before after cables claim found = cables_agree s cables claim found.outcome.agrees.0
+
+claim_agrees : (s : Site) (cables : List Cable) (claim : Claim) → LayoutAgrees s cables claim → IsClaimOf s claim
+claim_agrees s cables (Optimal cost) a = tt
+claim_agrees s cables (Gap cost bound) a = tt
+claim_agrees s cables (Partial bound stuck) a = within-turbine s stuck a.turbine_is
+claim_agrees s cables Infeasible a = tt
+
+-- a turbine that the claim names is a point
+pub claim_found : (s : Site) (arcs : List Arc) (n : ℕ) (before after : Option (List ℕ)) (cables : List Cable) (claim : Claim) → FindsPlan s arcs n before after cables claim → IsClaimOf s claim
+claim_found s arcs n before after cables claim found = claim_agrees s cables claim found.outcome.agrees.0
+
+-- ---- costs
+-- a legal layout whose cables ascend costs less than 2 ^ 63
+cost_in_range : (s : Site) (cables : List Cable) → IsValid s → AllPairs (λ c d. c.from < d.from) cables → IsLegal s cables → cost s cables < 2 ^ 63
+cost_in_range s cables valid order legal =
+    let most = cables-most (length s.points) cables order (λ k d h. (legal.range k).from (get_or cables k d) (slice_get-get_or cables k d h)) in
+    let each = sum_by-le (λ (c : Cable). cost_of s c.from c.to c.grade (load s cables c.from)) 28400000000000000 cables
+    (λ k d h. cost_small s (get_or cables k d).from (get_or cables k d).to (get_or cables k d).grade (load s cables (get_or cables k d).from) valid
+    (load_small_at s cables k (get_or cables k d) valid (slice_get-get_or cables k d h) legal.capacity)) in
+    let points = valid.points_count in
+    omega (arith, most, each, points)
+
+claim_in_range : (s : Site) (arcs : List Arc) (n : ℕ) (kept : Kept) (cables : List Cable) (claim : Claim) → IsValid s → IsOutcome s arcs n kept cables claim → IsClaimInRange claim
+claim_in_range s arcs n kept cables (Optimal best) valid o = subst (λ (c : ℕ). c < 2 ^ 63) o.agrees.0.1 (cost_in_range s cables valid o.in_order o.agrees.0.0)
+claim_in_range s arcs n kept cables (Gap best bound) valid o =
+    let small = cost_in_range s cables valid o.in_order o.agrees.0.0 in
+    let same = o.agrees.0.1 in
+    let below = o.agrees.1.1 in
+    (omega (arith, small, same), omega (arith, small, same, below))
+claim_in_range s arcs n kept cables (Partial bound stuck) valid o = o.open_small bound stuck refl
+claim_in_range s arcs n kept cables Infeasible valid o = tt
+
+-- ---- where a plan stops early
+-- what stands before the items, and a first part of these
+begun : (input out : Effect) (s : Site) (n : ℕ) (arcs : List Arc) (items : List Item) (kept : Kept) → IsRead input s → AreArcs s arcs → IsAccepted s arcs n items kept
+    → AppendsPrefix out.before out.after (head_text s n ++ concat (map item_lines items)) → PrintsPart n input out
+begun input out s n arcs items kept read are accepted part =
+    let started : IsPlanBegun s n (head_text s n ++ concat (map item_lines items)) =
+      record { arcs = arcs; are_arcs = are; items = items; kept = kept; accepted = accepted; text_is = refl } in
+    inr (s, (head_text s n ++ concat (map item_lines items), (read, (inl started, part))))
+
+-- a first part of what stands before the items
+pub head_part : (input out : Effect) (s : Site) (n : ℕ) (arcs : List Arc) → IsRead input s → AreArcs s arcs → AppendsPrefix out.before out.after (head_text s n) → PrintsPart n input out
+head_part input out s n arcs read are part = begun input out s n arcs [] nothing_kept read are refl (AppendsPrefix-front out.before out.after (head_text s n) [] part)
+
+pub items_part : (input out : Effect) (middle : Option (List ℕ)) (s : Site) (n : ℕ) (arcs : List Arc) → IsRead input s → AreArcs s arcs → Appends out.before middle (head_text s n)
+    → WritesPart s arcs n middle out.after → PrintsPart n input out
+items_part input out middle s n arcs read are first part =
+    begun input out s n arcs part.items part.kept read are part.accepted
+    (AppendsPrefix-then out.before middle out.after (head_text s n) (concat (map item_lines part.items)) first part.written)
+
+-- ---- plans
+-- the least bound that was found is at least the sum of the least costs out of the turbines
+floor_reached : (s : Site) (arcs : List Arc) (n : ℕ) (before after : Option (List ℕ)) (cables : List Cable) (claim : Claim) (bound : ℕ) → (found : FindsPlan s arcs n before after cables claim)
+    → IsLeastBound found.kept bound → (nearest : ℕ) → IsNearest s nearest → nearest ≤ bound
+floor_reached s arcs n before after cables claim bound found least nearest total =
+    let leaf = any_at (λ (v : Node). IsTrue (is_open_leaf v.status) × (v.bound ≡ bound)) found.kept.nodes least.reached in
+    let low = found.floor nearest total (suc leaf.0) leaf.1 leaf.2 in
+    let same : leaf.1.bound ≡ bound = leaf.3.1 in
+    omega (arith, low, same)
+
+first_cables : (s : Site) (arcs : List Arc) (n : ℕ) (before after : Option (List ℕ)) (cables : List Cable) (claim : Claim) → FindsPlan s arcs n before after cables claim → IsAtLeastFirstCables s claim
+first_cables s arcs n before after cables (Optimal best) found = floor_reached s arcs n before after cables (Optimal best) best found found.outcome.agrees.1
+first_cables s arcs n before after cables (Gap best bound) found = floor_reached s arcs n before after cables (Gap best bound) bound found found.outcome.agrees.1.0
+first_cables s arcs n before after cables (Partial bound stuck) found = floor_reached s arcs n before after cables (Partial bound stuck) bound found found.outcome.agrees.1.0
+first_cables s arcs n before after cables Infeasible found = tt
+
+-- what was found is a plan
+plan_found : (input : Effect) (middle later : Option (List ℕ)) (s : Site) (n : ℕ) (arcs : List Arc) (cables : List Cable) (claim : Claim) → 1 ≤ n → n ≤ 50000 → IsRead input s → AreArcs s arcs
+    → (found : FindsPlan s arcs n middle later cables claim) → IsPlan s n (document_text s n found.items cables claim) claim
+plan_found input middle later s n arcs cables claim least most read are found = record {
+  document = record {
+    arcs = arcs;
+    budget = n;
+    items = found.items;
+    cables = cables;
+    kept = found.kept;
+    valid = read.valid;
+    are_arcs = are;
+    is_budget = (least, most);
+    text = refl;
+    in_order = found.outcome.in_order;
+    accepted = found.accepted;
+    built = found.built;
+    in_range = claim_in_range s arcs n found.kept cables claim read.valid found.outcome;
+    agrees = found.outcome.agrees;
+  };
+  budget_is = refl;
+  says = says-sound s arcs n found.kept cables claim (sound-accepted s arcs n found.items found.kept read.valid are found.accepted) found.outcome.agrees;
+  first_cables = first_cables s arcs n middle later cables claim found;
+  closed = found.outcome.closed;
+  isolated = found.outcome.hopeless;
+  settled = found.outcome.settled;
+  straight = found.outcome.straight;
+  full = found.outcome.full;
+}
+
+-- what stands before the items and these, and a first part of what stands behind them
+pub tail_part : (input out : Effect) (middle later : Option (List ℕ)) (s : Site) (n : ℕ) (arcs : List Arc) (cables : List Cable) (claim : Claim) → 1 ≤ n → n ≤ 50000 → IsRead input s → AreArcs s arcs
+    → Appends out.before middle (head_text s n) → FindsPlan s arcs n middle later cables claim → AppendsPrefix later out.after (tail_text s cables claim) → PrintsPart n input out
+tail_part input out middle later s n arcs cables claim least most read are first found part =
+    let parts = AppendsPrefix-then out.before later out.after (head_text s n ++ concat (map item_lines found.items)) (tail_text s cables claim)
+    (Appends-then out.before middle later (head_text s n) (concat (map item_lines found.items)) first found.written) part in
+    let whole = subst (λ (text : List ℕ). AppendsPrefix out.before out.after text) (sym (document_parts s n found.items cables claim)) parts in
+    inr (s, (document_text s n found.items cables claim, (read, (inr (claim, plan_found input middle later s n arcs cables claim least most read are found), whole))))
+
+-- the whole text
+pub printed_whole : (input out : Effect) (middle later : Option (List ℕ)) (s : Site) (n : ℕ) (arcs : List Arc) (cables : List Cable) (claim : Claim) → 1 ≤ n → n ≤ 50000 → IsRead input s → AreArcs s arcs
+    → Appends out.before middle (head_text s n) → FindsPlan s arcs n middle later cables claim → Appends later out.after (tail_text s cables claim) → PrintsPlan n input out claim
+printed_whole input out middle later s n arcs cables claim least most read are first found last =
+    let all = Appends-then out.before later out.after (head_text s n ++ concat (map item_lines found.items)) (tail_text s cables claim)
+    (Appends-then out.before middle later (head_text s n) (concat (map item_lines found.items)) first found.written) last in
+    record {
+      site = s;
+      printed = document_text s n found.items cables claim;
+      read = read;
+      plan = plan_found input middle later s n arcs cables claim least most read are found;
+      wrote = subst (λ (bytes : List ℕ). Appends out.before out.after bytes) (sym (document_parts s n found.items cables claim)) all;
+    }

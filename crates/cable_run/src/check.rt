@@ -1,0 +1,68 @@
+//! The command `check`: a yes to a document that is accepted.
+
+ghost use Rattle.std.specs.Prelude.{◌≡◌};
+ghost use Rattle.std.specs.Fmt.{decimal};
+ghost use Rattle.cable_definitions.specs.Answers.{yes_line};
+ghost use Rattle.cable_text.specs.Stream.{Writes};
+ghost use Rattle.site_text.specs.Line.{field_text};
+ghost use Rattle.run_definitions.specs.Effect.{effect};
+ghost use Rattle.cable_run.specs.Steps.{CheckGives};
+
+use crate::document::read_checked;
+use crate::fault::Fault;
+use cable_definitions::claim::Claim;
+use cable_text::{Failed, Sink, Source};
+use run_definitions::ending::Ending;
+use site_text::{Field, push_line};
+use std::alloc::Global;
+
+/// Checks a document, and says yes where it is accepted.
+pub(crate) fn check<S: Source, O: Sink>(
+    alloc: Global,
+    input: &mut S,
+    out: &mut O,
+) -> Result<Ending, Fault>
+    ensures { CheckGives (effect S.left S.faults input.old input.new) (effect O.taken O.faults out.old out.new) result }
+{
+    let (_site, accepted) = match read_checked(alloc, input) {
+        Ok(read) => read,
+        Err(fault) => return Err(fault),
+    };
+    match write_yes(accepted.claim, out) {
+        Ok(()) => Ok(Ending::Done),
+        Err(_) => Err(Fault::Write),
+    }
+}
+
+/// Appends the yes to a claim.
+fn write_yes<O: Sink>(claim: Claim, out: &mut O) -> Result<(), Failed>
+    ensures { Writes result (O.taken out.old) (O.taken out.new) (O.faults out.old) (O.faults out.new) (yes_line claim) }
+{
+    let cost_word = Field::Word(b"cost");
+    let bound_word = Field::Word(b"bound");
+    match claim {
+        Claim::Optimal(cost) => {
+            push_line(
+                b"yes",
+                &[cost_word, number(cost), bound_word, number(cost)],
+                out,
+            )
+        }
+        Claim::Gap { cost, bound } => {
+            push_line(
+                b"yes",
+                &[cost_word, number(cost), bound_word, number(bound)],
+                out,
+            )
+        }
+        Claim::Partial { bound, .. } => push_line(b"yes", &[bound_word, number(bound)], out),
+        Claim::Infeasible => push_line(b"yes", &[Field::Word(b"infeasible")], out),
+    }
+}
+
+/// A number as a field of a line.
+fn number(value: u64) -> Field<'static>
+    ensures { field_text result ≡ decimal value }
+{
+    Field::Number(i128::from(value))
+}

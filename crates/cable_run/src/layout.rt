@@ -1,0 +1,73 @@
+//! A whole input as a site in lines with a layout.
+
+ghost use Rattle.std.specs.Prelude.{◌≡◌, ◌≤◌, [], All, None, OnOk};
+ghost use Rattle.cable_definitions.specs.Refusal.{reader_at, AtJudged};
+ghost use Rattle.cable_text.specs.Stream.{Rose, IsAtEnd};
+ghost use Rattle.cable_text.specs.Lines.{ahead};
+ghost use Rattle.proof_text.specs.Reading.{RefusedAfter, IfRefused, IfRead};
+ghost use Rattle.proof_text.specs.Cables.{IsListed};
+ghost use Rattle.run_definitions.specs.Effect.{effect};
+ghost use Rattle.cable_run.specs.Steps.{ReadsLayout, ReadsToEnd};
+
+use crate::fault::{Fault, of_lines, of_site};
+use cable_text::{Lines, Source};
+use candidate_cables::Arcs;
+use layout_meaning::Layout;
+use proof_text::{ItemFault, read_count, read_end, read_layout};
+use site_model::Site;
+use site_text::read_site;
+use std::alloc::Global;
+
+/// Reads a whole input as a site in lines with a layout that is judged.
+pub(crate) fn read_site_and_layout<S: Source>(
+    alloc: Global,
+    input: &mut S,
+) -> Result<(Site, Layout), Fault>
+    ensures { ReadsLayout (effect S.left S.faults input.old input.new) result }
+{
+    let Ok(mut lines) = Lines::new(alloc) else {
+        return Err(Fault::Memory);
+    };
+    let Ok(mut layout) = Layout::new(alloc) else {
+        return Err(Fault::Memory);
+    };
+    let site = match read_site(alloc, &mut lines, input) {
+        Ok(site) => site,
+        Err(fault) => return Err(of_site(fault)),
+    };
+    // The definitions of a layout that is read, and of its refusal, speak of the site's arcs.
+    let Ok(_arcs) = Arcs::new(alloc, &site) else {
+        return Err(Fault::Memory);
+    };
+    match read_cables(&site, &mut lines, input, &mut layout) {
+        Ok(()) => {}
+        Err(fault) => return Err(of_lines(fault)),
+    }
+    Ok((site, layout))
+}
+
+/// Reads the number of cables, the cables in any order, and the end of the input.
+fn read_cables<S: Source>(
+    site: &Site,
+    lines: &mut Lines,
+    input: &mut S,
+    layout: &mut Layout,
+) -> Result<(), ItemFault>
+    requires kept { lines.old.kept ≡ None }
+    requires empty { layout.old ≡ [] }
+    ensures reads { OnOk result (ReadsToEnd site.now (ahead lines.old.pending (S.left input.old)) layout.new) }
+    ensures listed { OnOk result (All (IsListed site.now) layout.new) }
+    ensures whole { OnOk result (IsAtEnd (S.left input.new)) }
+    ensures refused { IfRefused result (λ refusal. RefusedAfter site.now (reader_at AtJudged) (ahead lines.old.pending (S.left input.old)) lines.old.lines refusal) }
+    ensures read { IfRead result (Rose (S.faults input.old) (S.faults input.new)) }
+    ensures count { S.faults input.old ≤ S.faults input.new }
+{
+    let count = match read_count(lines, input) {
+        Ok(count) => count,
+        Err(fault) => return Err(fault),
+    };
+    match read_layout(lines, input, site, count, false, layout) {
+        Ok(()) => read_end(lines, input),
+        Err(fault) => Err(fault),
+    }
+}

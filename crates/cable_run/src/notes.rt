@@ -1,0 +1,166 @@
+//! The notes on what went wrong.
+
+ghost use Rattle.std.specs.Prelude.{◌≡◌, ◌⊎◌, ◌≤◌};
+ghost use Rattle.cable_definitions.specs.Answers.{usage_note, site_note, document_note, write_fault_note, code_word, cause_word};
+ghost use Rattle.cable_text.specs.Stream.{Rose, Appends, Writes};
+ghost use Rattle.run_definitions.specs.Effect.{effect, Noted, NoteFailed};
+ghost use Rattle.cable_run.specs.Noted.{IsNoted, EndsAs};
+
+use crate::fault::Fault;
+use branch_tree::Refusal;
+use cable_definitions::claim::Cause;
+use cable_text::{Failed, Sink};
+use run_definitions::ending::Ending;
+use site_model::SiteCode;
+use site_text::{Field, push_line};
+
+/// Notes that the words are no command.
+pub(crate) fn refuse_words<E: Sink>(note: &mut E) -> Ending
+    ensures { ((result ≡ Ending.Usage) × Appends (E.taken note.old) (E.taken note.new) usage_note)
+        ⊎ ((result ≡ Ending.WriteFault) × NoteFailed (effect E.taken E.faults note.old note.new) usage_note) }
+{
+    match note.push(b"usage: plan N [LANES], check, site, judge, report, drill K TURBINES N\n") {
+        Ok(()) => Ending::Usage,
+        Err(_) => note_write_fault(note),
+    }
+}
+
+/// How the run of a command ends that gave this: as its work says, or as its fault does, which is noted.
+pub(crate) fn end_of<E: Sink>(gave: Result<Ending, Fault>, note: &mut E) -> Ending
+    ensures { EndsAs gave (effect E.taken E.faults note.old note.new) result }
+{
+    match gave {
+        Ok(ending) => ending,
+        Err(fault) => note_fault(fault, note),
+    }
+}
+
+/// Notes why a command didn't do its work, and answers how the run ends then.
+fn note_fault<E: Sink>(fault: Fault, note: &mut E) -> Ending
+    ensures { IsNoted fault (effect E.taken E.faults note.old note.new) result }
+{
+    match fault {
+        Fault::OfSite { code, place } => refuse_site(code, place, note),
+        Fault::OfDocument(refusal) => refuse_document(refusal, note),
+        Fault::Read => note_once(b"read fault\n", Ending::ReadFault, note),
+        Fault::Write => note_once(b"write fault\n", Ending::WriteFault, note),
+        Fault::Memory => note_once(b"want of memory\n", Ending::Memory, note),
+    }
+}
+
+/// Notes the refusal of a site.
+fn refuse_site<E: Sink>(code: SiteCode, place: u64, note: &mut E) -> Ending
+    ensures { ((result ≡ Ending.SiteRefused) × Appends (E.taken note.old) (E.taken note.new) (site_note code place))
+        ⊎ ((result ≡ Ending.WriteFault) × NoteFailed (effect E.taken E.faults note.old note.new) (site_note code place)) }
+{
+    match write_site_note(code, place, note) {
+        Ok(()) => Ending::SiteRefused,
+        Err(_) => note_write_fault(note),
+    }
+}
+
+/// Notes the refusal of a document.
+fn refuse_document<E: Sink>(refusal: Refusal, note: &mut E) -> Ending
+    ensures { ((result ≡ Ending.DocumentRefused) × Appends (E.taken note.old) (E.taken note.new) (document_note refusal.cause refusal.line))
+        ⊎ ((result ≡ Ending.WriteFault) × NoteFailed (effect E.taken E.faults note.old note.new) (document_note refusal.cause refusal.line)) }
+{
+    match write_document_note(refusal, note) {
+        Ok(()) => Ending::DocumentRefused,
+        Err(_) => note_write_fault(note),
+    }
+}
+
+/// Appends the note on a refused site.
+fn write_site_note<E: Sink>(code: SiteCode, place: u64, note: &mut E) -> Result<(), Failed>
+    ensures { Writes result (E.taken note.old) (E.taken note.new) (E.faults note.old) (E.faults note.new) (site_note code place) }
+{
+    let refused = Field::Word(b"refused:");
+    let at = Field::Number(i128::from(place));
+    push_line(
+        b"site",
+        &[
+            refused,
+            Field::Word(word_of_code(code)),
+            Field::Word(b"at"),
+            at,
+        ],
+        note,
+    )
+}
+
+/// Appends the note on a refused document.
+fn write_document_note<E: Sink>(refusal: Refusal, note: &mut E) -> Result<(), Failed>
+    ensures { Writes result (E.taken note.old) (E.taken note.new) (E.faults note.old) (E.faults note.new) (document_note refusal.cause refusal.line) }
+{
+    let refused = Field::Word(b"refused:");
+    let line = Field::Number(i128::from(refusal.line));
+    push_line(
+        b"document",
+        &[
+            refused,
+            Field::Word(word_of_cause(refusal.cause)),
+            Field::Word(b"at"),
+            Field::Word(b"line"),
+            line,
+        ],
+        note,
+    )
+}
+
+/// The word of a code.
+fn word_of_code(code: SiteCode) -> &'static [u8]
+    ensures { result.now ≡ code_word code }
+{
+    match code {
+        SiteCode::TooLong => b"TooLong",
+        SiteCode::Form => b"Form",
+        SiteCode::Shape => b"Shape",
+        SiteCode::Range => b"Range",
+        SiteCode::BadName => b"BadName",
+        SiteCode::SameName => b"SameName",
+        SiteCode::SamePlace => b"SamePlace",
+        SiteCode::UnknownName => b"UnknownName",
+        SiteCode::SamePair => b"SamePair",
+        SiteCode::InObstacle => b"InObstacle",
+        SiteCode::TooMany => b"TooMany",
+    }
+}
+
+/// The word of a cause.
+fn word_of_cause(cause: Cause) -> &'static [u8]
+    ensures { result.now ≡ cause_word cause }
+{
+    match cause {
+        Cause::Line => b"Line",
+        Cause::Form => b"Form",
+        Cause::Site => b"Site",
+        Cause::Row => b"Row",
+        Cause::Limit => b"Limit",
+        Cause::Node => b"Node",
+        Cause::Weight => b"Weight",
+        Cause::Arc => b"Arc",
+        Cause::Dead => b"Dead",
+        Cause::Full => b"Full",
+        Cause::Layout => b"Layout",
+        Cause::Verdict => b"Verdict",
+    }
+}
+
+/// Notes a write fault, whatever comes of it.
+fn note_write_fault<E: Sink>(note: &mut E) -> Ending
+    ensures ending { result ≡ Ending.WriteFault }
+    ensures note { Noted (effect E.taken E.faults note.old note.new) write_fault_note }
+    ensures count { E.faults note.old ≤ E.faults note.new }
+{
+    note_once(b"write fault\n", Ending::WriteFault, note)
+}
+
+/// Pushes a note once, whatever comes of it.
+fn note_once<E: Sink>(text: &[u8], ending: Ending, note: &mut E) -> Ending
+    ensures ending { result ≡ ending }
+    ensures note { Noted (effect E.taken E.faults note.old note.new) text.now }
+    ensures count { E.faults note.old ≤ E.faults note.new }
+{
+    let _ = note.push(text);
+    ending
+}

@@ -1,0 +1,131 @@
+//! The top call.
+
+ghost use Rattle.std.specs.Prelude.{◌≡◌, ℕ, List, Some};
+ghost use Rattle.cable_definitions.specs.declared.cable.Cable.{Cable};
+ghost use Rattle.cable_definitions.specs.declared.claim.Claim.{Claim};
+ghost use Rattle.cable_definitions.specs.declared.command.Command.{Command as AnyCommand};
+ghost use Rattle.cable_definitions.specs.Site.{Site};
+ghost use Rattle.cable_definitions.specs.Tree.{Says};
+ghost use Rattle.cable_definitions.specs.Text.{site_lines};
+ghost use Rattle.cable_definitions.specs.Document.{Yes};
+ghost use Rattle.cable_definitions.specs.Refusal.{IsJudged};
+ghost use Rattle.cable_definitions.specs.Answers.{yes_line};
+ghost use Rattle.run_definitions.specs.Bytes.{IsSiteOf, IsFrontSite};
+ghost use Rattle.run_definitions.specs.Effect.{effect, Wrote, RanWell};
+ghost use Rattle.run_definitions.specs.Words.{texts, AsksFor, IsKnownCommand, IsNoCommand};
+ghost use Rattle.run_definitions.specs.Yes.{IsTrueYes};
+ghost use Rattle.run_definitions.specs.Ends.{UsageEnds, CommandEnds, PrintsPlanOf, IsJudgement, IsReport};
+ghost use Rattle.cable_run.specs.Steps.{CommandGives};
+
+use crate::check::check;
+use crate::fault::Fault;
+use crate::judge::judge;
+use crate::notes::{end_of, refuse_words};
+use crate::plan::plan;
+use crate::report::report;
+use crate::site::site;
+use crate::words::words_of;
+use cable_definitions::command::Command;
+use cable_text::{Sink, Source};
+use run_definitions::ending::Ending;
+use std::alloc::Global;
+
+/// Does what the words ask for: reads `input`, writes the answer to `out`, and notes a refusal or a
+/// fault to `note`, one line.
+///
+/// - `plan N` reads a site, in lines or in JSON, to the end of the input, and prints a document, with a
+///   proof that is made in at most N works: the cheapest legal layout with its cost, or that there is
+///   none (`Done`, `Infeasible`); or, where N works didn't suffice, the best layout that was found, and a
+///   bound below its cost (`Gap`), or a part of a layout, a turbine that can't be joined to it, and a
+///   bound (`Partial`). `SiteRefused` exactly where the input is no site.
+/// - `check` reads a document to its end, and says yes exactly where it is accepted, which alone implies
+///   its claim (`Done`; else `DocumentRefused`, with the first line at which a cause holds).
+/// - `site` reads a site, in lines or in JSON, and writes its lines (`Done`, `SiteRefused`).
+/// - `judge` reads a site in lines and a layout, and writes whether it is legal, with its cost, or the
+///   first rule that it breaks (`Done`, `SiteRefused`, `DocumentRefused`).
+/// - `report` reads a document as `check` does, and then writes its report (`Done`, `DocumentRefused`).
+/// - Other words are no command: `Usage`.
+///
+/// `ReadFault` and `WriteFault` come only where a count of faults rose in the call. `Memory` is free.
+/// A fault ends the run at once.
+pub fn run<S: Source, O: Sink, E: Sink>(
+    alloc: Global,
+    words: &[String],
+    input: &mut S,
+    out: &mut O,
+    note: &mut E,
+) -> Ending
+    // What a lender reads: where `check` ends with `Done`, the input begins with the lines of a valid site,
+    // and the yes that was written is true: no legal layout of that site costs less than its bound, and
+    // some legal layout has its cost.
+    ensures bound { (bytes : List ℕ) → AsksFor (texts words.now) AnyCommand.Check → S.left input.old ≡ Some bytes
+        → result ≡ Ending.Done → IsTrueYes bytes (effect O.taken O.faults out.old out.new) }
+
+    // For every site and every budget, `plan` prints a document that `check` accepts: its layout is legal at
+    // its cost, settled, and costs no more than the straight layout; no legal layout costs less than its
+    // bound, which is at least the sum of the turbines' cheapest first cables; infeasible is printed only
+    // where there is no legal layout; and a gap or a part only where the budget was used up and wasn't
+    // enough; unless a stream failed or memory ran out.
+    ensures headline { (n : ℕ) (bytes : List ℕ) (s : Site) → AsksFor (texts words.now) (AnyCommand.Plan n 1) → S.left input.old ≡ Some bytes
+        → IsSiteOf bytes s
+        → RanWell (effect S.left S.faults input.old input.new) (effect O.taken O.faults out.old out.new) (effect E.taken E.faults note.old note.new) result
+        → PrintsPlanOf s n (effect S.left S.faults input.old input.new) (effect O.taken O.faults out.old out.new) result }
+
+    // `check` says yes to each document that is accepted, and then its claim is true.
+    ensures yes { (bytes : List ℕ) (s : Site) (claim : Claim) → AsksFor (texts words.now) AnyCommand.Check → S.left input.old ≡ Some bytes
+        → Yes bytes s claim
+        → RanWell (effect S.left S.faults input.old input.new) (effect O.taken O.faults out.old out.new) (effect E.taken E.faults note.old note.new) result
+        → (result ≡ Ending.Done) × Wrote (effect O.taken O.faults out.old out.new) (yes_line claim) × Says s claim }
+
+    // `site` writes the lines of each site that stands at the front of the input.
+    ensures lines { (bytes : List ℕ) (s : Site) → AsksFor (texts words.now) AnyCommand.Site → S.left input.old ≡ Some bytes
+        → IsFrontSite bytes s
+        → RanWell (effect S.left S.faults input.old input.new) (effect O.taken O.faults out.old out.new) (effect E.taken E.faults note.old note.new) result
+        → (result ≡ Ending.Done) × Wrote (effect O.taken O.faults out.old out.new) (site_lines s) }
+
+    // `judge` answers on each layout.
+    ensures judgement { (bytes : List ℕ) (s : Site) (cables : List Cable) → AsksFor (texts words.now) AnyCommand.Judge → S.left input.old ≡ Some bytes
+        → IsJudged bytes s cables
+        → RanWell (effect S.left S.faults input.old input.new) (effect O.taken O.faults out.old out.new) (effect E.taken E.faults note.old note.new) result
+        → (result ≡ Ending.Done) × ((text : List ℕ) × IsJudgement s cables text × Wrote (effect O.taken O.faults out.old out.new) text) }
+
+    // `report` writes the report of each document that is accepted.
+    ensures report { (bytes : List ℕ) (s : Site) (claim : Claim) → AsksFor (texts words.now) AnyCommand.Report → S.left input.old ≡ Some bytes
+        → Yes bytes s claim
+        → RanWell (effect S.left S.faults input.old input.new) (effect O.taken O.faults out.old out.new) (effect E.taken E.faults note.old note.new) result
+        → (result ≡ Ending.Done) × ((text : List ℕ) × IsReport (effect S.left S.faults input.old input.new) text × Wrote (effect O.taken O.faults out.old out.new) text) }
+
+    // How each command ends, case by case.
+    ensures ends { (command : AnyCommand) → AsksFor (texts words.now) command → CommandEnds command
+        (effect S.left S.faults input.old input.new) (effect O.taken O.faults out.old out.new) (effect E.taken E.faults note.old note.new) result }
+
+    // Usage comes exactly where the words are no command, unless the note's push failed.
+    ensures usage { result ≡ Ending.Usage → IsNoCommand (texts words.now) }
+    ensures no_command { IsNoCommand (texts words.now) → UsageEnds
+        (effect S.left S.faults input.old input.new) (effect O.taken O.faults out.old out.new) (effect E.taken E.faults note.old note.new) result }
+{
+    match words_of(words) {
+        None => refuse_words(note),
+        Some(command) => end_of(obey(alloc, command, input, out), note),
+    }
+}
+
+/// Does what a command asks for.
+fn obey<S: Source, O: Sink>(
+    alloc: Global,
+    command: Command,
+    input: &mut S,
+    out: &mut O,
+) -> Result<Ending, Fault>
+    requires { IsKnownCommand command }
+    ensures { CommandGives command (effect S.left S.faults input.old input.new) (effect O.taken O.faults out.old out.new) result }
+{
+    match command {
+        Command::Plan { budget, lanes: _ } => plan(alloc, budget, input, out),
+        Command::Check => check(alloc, input, out),
+        Command::Site => site(alloc, input, out),
+        Command::Judge => judge(alloc, input, out),
+        Command::Report => report(alloc, input, out),
+        _ => unreachable!(),
+    }
+}

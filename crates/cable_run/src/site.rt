@@ -1,0 +1,29 @@
+//! The command `site`: the lines of a site in either form.
+
+ghost use Rattle.run_definitions.specs.Effect.{effect};
+ghost use Rattle.cable_run.specs.Steps.{SiteGives};
+
+use crate::fault::{Fault, of_site};
+use cable_text::{Sink, Source};
+use run_definitions::ending::Ending;
+use site_input::read_front;
+use site_text::write_site;
+use std::alloc::Global;
+
+/// Reads a site in either form, and writes it in lines.
+pub(crate) fn site<S: Source, O: Sink>(
+    alloc: Global,
+    input: &mut S,
+    out: &mut O,
+) -> Result<Ending, Fault>
+    ensures { SiteGives (effect S.left S.faults input.old input.new) (effect O.taken O.faults out.old out.new) result }
+{
+    let site = match read_front(alloc, input) {
+        Ok(site) => site,
+        Err(fault) => return Err(of_site(fault)),
+    };
+    match write_site(&site, out) {
+        Ok(()) => Ok(Ending::Done),
+        Err(_) => Err(Fault::Write),
+    }
+}

@@ -1,0 +1,9 @@
+//! Tests of whole checks: `check` and `report` over memory.
+#![tactic(auto)]
+
+#[cfg(test)]
+mod checks;
+#[cfg(test)]
+mod reports;
+#[cfg(test)]
+mod weights;

@@ -1,0 +1,7 @@
+//! Tests of whole plans: `plan` over memory.
+#![tactic(auto)]
+
+#[cfg(test)]
+mod compared;
+#[cfg(test)]
+mod plans;

@@ -1,0 +1,88 @@
+//! What the tests of whole runs share: a run over memory, sites and documents.
+#![tactic(auto)]
+
+use cable_run::run;
+use cable_text::{MemorySink, MemorySource};
+use std::alloc::{AllocError, Global};
+
+/// What a run printed and noted, and its status.
+#[derive(Drop)]
+pub struct Ran {
+    pub status: u8,
+    pub out: Vec<u8>,
+    pub note: Vec<u8>,
+}
+
+/// The most bytes that a run prints in these tests.
+const ROOM: usize = 1 << 14;
+
+/// Runs the program over memory: the input in pieces of 16 bytes, and the pulls, pushes and notes of
+/// these numbers fail.
+pub fn ran_with(
+    alloc: Global,
+    words: &[&str],
+    input: &[u8],
+    pulls: &[u64],
+    pushes: &[u64],
+    notes: &[u64],
+) -> Result<Ran, AllocError> {
+    let mut texts = Vec::new(alloc);
+    for word in words {
+        texts.push(String::from_str(alloc, word)?)?;
+    }
+    let bytes = Vec::from_slice(alloc, input)?;
+    let mut source = MemorySource::new(bytes, 16, Vec::from_slice(alloc, pulls)?);
+    let mut out = MemorySink::new(alloc, ROOM, Vec::from_slice(alloc, pushes)?)?;
+    let mut note = MemorySink::new(alloc, 512, Vec::from_slice(alloc, notes)?)?;
+    let ending = run(alloc, texts.as_slice(), &mut source, &mut out, &mut note);
+    Ok(Ran {
+        status: ending.status(),
+        out: Vec::from_slice(alloc, out.taken())?,
+        note: Vec::from_slice(alloc, note.taken())?,
+    })
+}
+
+/// Runs a command on an input, and no stream fails.
+pub fn run_on(alloc: Global, words: &[&str], input: &str) -> Result<Ran, AllocError> {
+    ran_with(alloc, words, input.as_bytes(), &[], &[], &[])
+}
+
+/// The site of one turbine 500 metres from its substation.
+pub const FIRST: &str =
+    "site 1\nmode tree\ntype 400 100\nsubstation S 0 0 4 10000\nturbine A 300 400 100\nend site\n";
+
+/// The site of three turbines, of which the first is nearest to the substation.
+pub const FORK: &str =
+    "site 1\nmode tree\ntype 400 1\nsubstation S 0 0 4 10000\nturbine A 0 1000 100\nturbine B -300 1400 100\nturbine C 300 1400 100\nend site\n";
+
+/// A document of the first site.
+pub const DOCUMENT: &str =
+    "site 1\nmode tree\ntype 400 100\nsubstation S 0 0 4 10000\nturbine A 300 400 100\nend site\nbudget 8191\nrow out 1\nwork 1 0\nsplit 0\nwork 2 0\nfull\nwork 3 0\ndead row 0\nlayout 1\ncable A S 0\noptimal 50000\nend document\n";
+
+/// A document of a part: the substation takes one cable, which bears two turbines, and C is the third.
+pub const OPEN: &str =
+    "site 1\nmode tree\ntype 200 1\nsubstation S 0 0 1 10000\nturbine A 0 1000 100\nturbine B 1000 0 100\nturbine C 1000 1000 100\nend site\nbudget 1\nwork 1 0\nstop\nlayout 2\ncable A S 0\ncable B A 0\nopen 0 stuck C\nend document\n";
+
+/// The text with one part of it, which stands in it, changed.
+pub fn changed(
+    alloc: Global,
+    text: &str,
+    old: &str,
+    new: &str,
+) -> Result<String, AllocError> {
+    let mut changed = String::new(alloc);
+    if let Some((front, back)) = text.split_once(old) {
+        changed.push_str(front)?;
+        changed.push_str(new)?;
+        changed.push_str(back)?;
+    }
+    Ok(changed)
+}
+
+/// The cause and the line of a note.
+pub fn cause_of(note: &[u8]) -> Option<&[u8]> {
+    match note.strip_prefix(b"document refused: ".as_slice()) {
+        Some(rest) => rest.strip_suffix(b"\n".as_slice()),
+        None => None,
+    }
+}
