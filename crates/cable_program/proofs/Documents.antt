@@ -109,7 +109,7 @@ site_fails input fault answer lines before is none told refused read = subst (λ
 -- a refusal behind a site
 refused_behind_site : (s : Site) (arcs : List Arc) (before middle : Option (List ℕ)) (bytes : List ℕ) (lines start : ℕ) (x : Refusal) → IsValid s → AreArcs s arcs → GivesFront before middle (site_lines s)
     → before ≡ Some bytes → start ≡ 0 → lines ≡ lines_after start (line_count (site_lines s)) → line_count (site_lines s) ≤ 34100
-    → ((rest : List ℕ) → middle ≡ Some rest → lines + 60000000 < 2 ^ 64 → IsRefusedAfter s arcs AtBudget rest (lines + 1) x.line x.cause) → IsRefusedBehind AtBudget bytes 1 x.line x.cause
+    → ((rest : List ℕ) → middle ≡ Some rest → lines + 60000000 < 2 ^ 64 → IsRefusedAfter s arcs AtBudget rest (lines + 1) x.line x.cause) → IsRefusedBehind bytes 1 x.line x.cause
 refused_behind_site s arcs before middle bytes lines start x valid are gives told none number few h =
     let b = behind before middle (site_lines s) bytes gives told in
     let same : lines + 1 ≡ 1 + line_count (site_lines s) = omega (arith, none, number, few) in

@@ -9,7 +9,6 @@ ghost use Rattle.cable_program.specs.JudgeSteps.{ReadsLayout, ReadsToEnd};
 
 use crate::fault::{Fault, of_lines, of_site};
 use cable_text::{Lines, Source};
-use candidate_cables::Arcs;
 use layout_meaning::Layout;
 use proof_text::{ItemFault, read_count, read_end, read_layout};
 use site_model::Site;
@@ -34,10 +33,6 @@ pub(crate) fn read_laid_out<S: Source>(
     let site = match read_site(alloc, &mut lines, input) {
         Ok(site) => site,
         Err(fault) => return Err(of_site(fault)),
-    };
-    // The definitions of a layout that is read, and of its refusal, speak of the site's arcs.
-    let Ok(_arcs) = Arcs::new(alloc, &site) else {
-        return Err(Fault::Memory);
     };
     match read_cables(&site, &mut lines, input, &mut layout) {
         Ok(()) => {}

@@ -40,7 +40,7 @@ yes-stands bytes s claim base line cause y (inr refused) =
     let front = yes_front bytes s claim y in
     let w = yes_read bytes s claim y in
     whole-stands s y.arcs y.valid AtBudget (behind_site s y.budget y.items y.cables claim) w.lines w.end (base + line_count (site_lines s)) line cause w.reads (past_ends w.end.phase w.past)
-    (behind-at s y.arcs AtBudget bytes (behind_site s y.budget y.items y.cables claim) base line cause front y.are_arcs refused)
+    (behind-at s y.arcs bytes (behind_site s y.budget y.items y.cables claim) base line cause front y.are_arcs refused)
 
 -- the last line but one
 last_but_one : (xs ys : List DocLine) (a b : DocLine) → xs ++ a ∷ EndLine ∷ [] ≡ ys ++ b ∷ EndLine ∷ [] → a ≡ b
@@ -80,4 +80,4 @@ refused-same bytes base line there cause other (inl h) (inl k) =
     record { lines = same.1; causes = h.cause_is ∙ ap (λ (broken : Bool). cond broken Line SiteCause) same.2 ∙ sym k.cause_is }
 refused-same bytes base line there cause other (inl h) (inr k) = absurd (no_fault_in_front bytes k.rest k.site base h.code line h.broken_line k.front h.fault)
 refused-same bytes base line there cause other (inr h) (inl k) = absurd (no_fault_in_front bytes h.rest h.site base k.code there k.broken_line h.front k.fault)
-refused-same bytes base line there cause other (inr h) (inr k) = behind-same AtBudget bytes base line there cause other h k
+refused-same bytes base line there cause other (inr h) (inr k) = behind-same bytes base line there cause other h k
