@@ -26,6 +26,67 @@ pub enum Kind {
     Bend,
 }
 
+impl Mode {
+    ghost use Rattle.cable_definitions.specs.Text.{mode_word};
+
+    /// The word of the mode in a site's lines and in a report.
+    pub fn word(self) -> &'static [u8]
+        ensures word { result.now ≡ mode_word self }
+    {
+        match self {
+            Mode::Tree => b"tree",
+            Mode::Strings => b"strings",
+        }
+    }
+}
+
+impl Kind {
+    ghost use Rattle.std.specs.Prelude.{IsTrue};
+    ghost use Rattle.cable_definitions.specs.Arcs.{is_turbine, is_substation, is_bend, power_of_kind};
+    ghost use Rattle.cable_definitions.specs.Choice.{least_load as least_load_of};
+
+    /// Whether it is a turbine.
+    pub fn is_turbine(self) -> bool
+        ensures turbine { result ≡ is_turbine self }
+    {
+        matches!(self, Kind::Turbine { .. })
+    }
+
+    /// Whether it is a substation.
+    pub fn is_substation(self) -> bool
+        ensures substation { result ≡ is_substation self }
+    {
+        matches!(self, Kind::Substation { .. })
+    }
+
+    /// Whether it is a bend.
+    pub fn is_bend(self) -> bool
+        ensures bend { result ≡ is_bend self }
+    {
+        matches!(self, Kind::Bend)
+    }
+
+    /// What it feeds in, in power units: a turbine its power, another point nothing.
+    pub fn power(self) -> u32
+        ensures power { result ≡ power_of_kind self }
+    {
+        match self {
+            Kind::Turbine { power } => power,
+            Kind::Substation { .. } | Kind::Bend => 0,
+        }
+    }
+
+    /// The least load of a used cable out of it, in power units: its own power for a turbine, and 1 for another point.
+    pub fn least_load(self) -> u32
+        ensures least { result ≡ least_load_of self }
+    {
+        match self {
+            Kind::Turbine { power } => power,
+            Kind::Substation { .. } | Kind::Bend => 1,
+        }
+    }
+}
+
 /// A name of 1 to 16 bytes, which are seen as a list.
 #[derive(Debug, Drop)]
 pub struct Name {
@@ -163,4 +224,27 @@ pub enum SiteCode {
     SamePair,
     InObstacle,
     TooMany,
+}
+
+impl SiteCode {
+    ghost use Rattle.cable_definitions.specs.Answers.{code_word};
+
+    /// The word of the code in a note.
+    pub fn word(self) -> &'static [u8]
+        ensures word { result.now ≡ code_word self }
+    {
+        match self {
+            SiteCode::TooLong => b"TooLong",
+            SiteCode::Form => b"Form",
+            SiteCode::Shape => b"Shape",
+            SiteCode::Range => b"Range",
+            SiteCode::BadName => b"BadName",
+            SiteCode::SameName => b"SameName",
+            SiteCode::SamePlace => b"SamePlace",
+            SiteCode::UnknownName => b"UnknownName",
+            SiteCode::SamePair => b"SamePair",
+            SiteCode::InObstacle => b"InObstacle",
+            SiteCode::TooMany => b"TooMany",
+        }
+    }
 }

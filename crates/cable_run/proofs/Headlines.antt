@@ -13,8 +13,8 @@ use Rattle.cable_definitions.specs.declared.site.SiteCode.{SiteCode}
 use Rattle.cable_definitions.specs.Site.{Site}
 use Rattle.cable_definitions.specs.Tree.{Says, LayoutAgrees}
 use Rattle.cable_definitions.specs.Text.{site_lines}
-use Rattle.cable_definitions.specs.Document.{Yes}
-use Rattle.cable_definitions.specs.Refusal.{IsJudged}
+use Rattle.cable_definitions.specs.Document.{IsAcceptedDocument}
+use Rattle.cable_definitions.specs.Refusal.{IsSiteWithCables}
 use Rattle.cable_definitions.specs.Answers.{yes_line}
 use Rattle.site_json.proofs.Excluding.{site_same as one_site, site_no_fault as no_plan_fault, front_same as one_front, front_no_fault as no_front_fault}
 use Rattle.site_laws.proofs.Fronts.{no_fault_in_front}
@@ -67,10 +67,10 @@ said : (s t : Site) (claim other : Claim) (out : Effect) (text : List ℕ) → t
 said s t claim other out text same one is wrote says =
     (subst (λ (c : Claim). Wrote out (yes_line c)) one (subst (λ (x : List ℕ). Wrote out x) is wrote), subst (λ (u : Site). Says u claim) same (subst (λ (c : Claim). Says t c) one says))
 
-read_as : (bytes other : List ℕ) (s : Site) (claim : Claim) → bytes ≡ other → Yes other s claim → Yes bytes s claim
-read_as bytes other s claim e y = subst (λ (b : List ℕ). Yes b s claim) (sym e) y
+read_as : (bytes other : List ℕ) (s : Site) (claim : Claim) → bytes ≡ other → IsAcceptedDocument other s claim → IsAcceptedDocument bytes s claim
+read_as bytes other s claim e y = subst (λ (b : List ℕ). IsAcceptedDocument b s claim) (sym e) y
 
-pub yes_of : (bytes : List ℕ) (s : Site) (claim : Claim) (input out note : Effect) (ending : Ending) → EndsBy (check_promise input) input out note ending → Held input bytes → Yes bytes s claim
+pub yes_of : (bytes : List ℕ) (s : Site) (claim : Claim) (input out note : Effect) (ending : Ending) → EndsBy (check_promise input) input out note ending → Held input bytes → IsAcceptedDocument bytes s claim
     → RanWell input out note ending → (ending ≡ Done) × Wrote out (yes_line claim) × Says s claim
 yes_of bytes s claim input out note ending h b y r =
     let did = done_well (check_promise input) input out note ending h r (λ code place none. none) (λ line cause refused. yes-stands bytes s claim 1 line cause y (refused bytes b)) in
@@ -89,7 +89,7 @@ reached_by s cables Infeasible h = tt
 
 true_yes : (bytes : List ℕ) (input out : Effect) (s : Site) (claim : Claim) (text : List ℕ) → IsChecked input s claim → text ≡ yes_line claim → Wrote out text → Held input bytes → IsTrueYes bytes out
 true_yes bytes input out s claim text checked is wrote b =
-    let y : Yes checked.bytes s claim = checked.document in
+    let y : IsAcceptedDocument checked.bytes s claim = checked.document in
     record {
       site = s;
       rest = behind_site s y.budget y.items y.cables claim;
@@ -124,7 +124,7 @@ judged_as s t cables others text same one j =
     subst (λ (u : Site). IsJudgement u cables text) same (subst (λ (c : List Cable). IsJudgement t c text) one j)
 
 pub judgement_of : (bytes : List ℕ) (s : Site) (cables : List Cable) (input out note : Effect) (ending : Ending) → EndsBy (judge_promise input) input out note ending → Held input bytes
-    → IsJudged bytes s cables → RanWell input out note ending → (ending ≡ Done) × ((text : List ℕ) × IsJudgement s cables text × Wrote out text)
+    → IsSiteWithCables bytes s cables → RanWell input out note ending → (ending ≡ Done) × ((text : List ℕ) × IsJudgement s cables text × Wrote out text)
 judgement_of bytes s cables input out note ending h b j r =
     let did = done_well (judge_promise input) input out note ending h r
     (λ code place refused. let fault = refused bytes b in no_fault_in_front bytes j.rest s 1 code place fault.0 j.front fault.1)
@@ -134,7 +134,7 @@ judgement_of bytes s cables input out note ending h b j r =
     (did.0, (did.1, judged_as s answer.0 cables answer.1 did.1 same.sites same.lists answer.3, did.3))
 
 -- ---- report
-pub report_of : (bytes : List ℕ) (s : Site) (claim : Claim) (input out note : Effect) (ending : Ending) → EndsBy (report_promise input) input out note ending → Held input bytes → Yes bytes s claim
+pub report_of : (bytes : List ℕ) (s : Site) (claim : Claim) (input out note : Effect) (ending : Ending) → EndsBy (report_promise input) input out note ending → Held input bytes → IsAcceptedDocument bytes s claim
     → RanWell input out note ending → (ending ≡ Done) × ((text : List ℕ) × IsReport input text × Wrote out text)
 report_of bytes s claim input out note ending h b y r =
     let did = done_well (report_promise input) input out note ending h r (λ code place none. none) (λ line cause refused. yes-stands bytes s claim 1 line cause y (refused bytes b)) in

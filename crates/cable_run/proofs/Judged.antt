@@ -7,15 +7,14 @@ use Rattle.cable_definitions.specs.declared.cable.Arc.{Arc}
 use Rattle.cable_definitions.specs.declared.cable.Cable.{Cable}
 use Rattle.cable_definitions.specs.declared.claim.Cause.TheVariants.{Limit}
 use Rattle.cable_definitions.specs.Site.{Site, IsValid}
-use Rattle.cable_definitions.specs.Arcs.{AreArcs}
 use Rattle.cable_definitions.specs.Text.{site_lines, line_count, Whole}
 use Rattle.cable_definitions.specs.declared.site.SiteCode.{SiteCode}
 use Rattle.cable_definitions.specs.Items.{Field, within, IsLineFault}
-use Rattle.cable_definitions.specs.Refusal.{DocLine, BudgetLine, RowLine, WorkLine, WeightLine, ActLine, LayoutLine, CableLine, ClaimLine, EndLine, Phase, AtJudged, AtAnyCables, Reader, reader_at, is_allowed, after_cable, IsReadable, ReadsLines, IsRefusedAfter, IsRefusedBehind}
+use Rattle.cable_definitions.specs.Refusal.{DocLine, BudgetLine, RowLine, WorkLine, WeightLine, ActLine, LayoutLine, CableLine, ClaimLine, EndLine, Phase, AtJudged, AtAnyCables, Reader, reader_at, is_allowed, after_cable, IsReadable, ReadsLines, IsRefusedAfter, IsJudgeRefused}
 use Rattle.branch_tree.specs.declared.work.Refusal.{Refusal}
-use Rattle.cable_text.specs.Stream.{Rose, Gives}
+use Rattle.cable_text.specs.Stream.{Rose, GivesFront}
 use Rattle.cable_text.proofs.Writing.{Rose-after}
-use Rattle.proof_text.specs.Reading.{counted, RefusedAfter, IsRefusedHere, IfRefused, IfRead}
+use Rattle.proof_text.specs.Reading.{line_number_after, RefusedAfter, IsRefusedHere, IfRefused, IfRead}
 use Rattle.site_input.proofs.Forms.{behind, first_fault}
 use Rattle.site_model.specs.declared.fault.SiteFault.{SiteFault}
 use Rattle.site_model.specs.declared.fault.SiteFault.TheVariants.{Refused as RefusedSite, Read as SiteRead, Memory as SiteMemory}
@@ -105,18 +104,16 @@ after_of : (s : Site) (middle : Option (List ℕ)) (rest : List ℕ) (lines : �
 after_of s middle rest lines x e h = subst (λ (m : Option (List ℕ)). RefusedAfter s (reader_at AtJudged) m lines x) e h
 
 -- a refusal behind a site
-pub refused_behind_site : (s : Site) (arcs : List Arc) (before middle : Option (List ℕ)) (bytes : List ℕ) (lines start : ℕ) (x : Refusal) → IsValid s → AreArcs s arcs
-    → Gives before middle (site_lines s) → before ≡ Some bytes → start ≡ 0 → lines ≡ counted start (line_count (site_lines s)) → line_count (site_lines s) ≤ 34100
-    → RefusedAfter s (reader_at AtJudged) middle lines x → IsRefusedBehind AtJudged bytes 1 x.line x.cause
-refused_behind_site s arcs before middle bytes lines start x valid are gives told none number few h =
+pub refused_behind_site : (s : Site) (before middle : Option (List ℕ)) (bytes : List ℕ) (lines start : ℕ) (x : Refusal) → IsValid s
+    → GivesFront before middle (site_lines s) → before ≡ Some bytes → start ≡ 0 → lines ≡ line_number_after start (line_count (site_lines s)) → line_count (site_lines s) ≤ 34100
+    → RefusedAfter s (reader_at AtJudged) middle lines x → IsJudgeRefused bytes x.line x.cause
+refused_behind_site s before middle bytes lines start x valid gives told none number few h =
     let b = behind before middle (site_lines s) bytes gives told in
     record {
       site = s;
       rest = b.0;
       front = record { valid = valid; text = b.1 };
-      arcs = arcs;
-      are_arcs = are;
-      refused = here_after s arcs b.0 lines (1 + line_count (site_lines s)) x (omega (arith, none, number, few)) (omega (arith, few)) (after_of s middle b.0 lines x b.2 h);
+      refused = here_after s [] b.0 lines (1 + line_count (site_lines s)) x (omega (arith, none, number, few)) (omega (arith, few)) (after_of s middle b.0 lines x b.2 h);
     }
 
 -- how the faults below end a reading
@@ -138,18 +135,18 @@ pub site_fails : (input : Effect) (answer : Fault) (fault : SiteFault) (lines : 
 site_fails input answer fault lines told_ahead is none told refused read =
     subst (λ (f : Fault). ReadsLayout input (Err f)) (sym is) (site_ends input fault lines told_ahead none told refused read)
 
-lines_end : (A : Type 0) (input : Effect) (fault : ItemFault) (s : Site) (arcs : List Arc) (before middle : Option (List ℕ)) (lines start : ℕ) → IsValid s → AreArcs s arcs
-    → Gives before middle (site_lines s) → ((bytes : List ℕ) → Held input bytes → before ≡ Some bytes) → start ≡ 0 → lines ≡ counted start (line_count (site_lines s)) → line_count (site_lines s) ≤ 34100
+lines_end : (A : Type 0) (input : Effect) (fault : ItemFault) (s : Site) (before middle : Option (List ℕ)) (lines start : ℕ) → IsValid s
+    → GivesFront before middle (site_lines s) → ((bytes : List ℕ) → Held input bytes → before ≡ Some bytes) → start ≡ 0 → lines ≡ line_number_after start (line_count (site_lines s)) → line_count (site_lines s) ≤ 34100
     → IfRefused {A = A} (Err fault) (λ x. RefusedAfter s (reader_at AtJudged) middle lines x) → IfRead {A = A} (Err fault) (Faulted input) → ReadsLayout input (Err (line_fault fault))
-lines_end A input (RefusedLine x) s arcs before middle lines start valid are gives told none number few h read =
-    λ bytes t. refused_behind_site s arcs before middle bytes lines start x valid are gives (told bytes t) none number few h
-lines_end A input LineRead s arcs before middle lines start valid are gives told none number few h read = read
+lines_end A input (RefusedLine x) s before middle lines start valid gives told none number few h read =
+    λ bytes t. refused_behind_site s before middle bytes lines start x valid gives (told bytes t) none number few h
+lines_end A input LineRead s before middle lines start valid gives told none number few h read = read
 
-pub lines_fail : (A : Type 0) (input : Effect) (answer : Fault) (fault : ItemFault) (s : Site) (arcs : List Arc) (before middle : Option (List ℕ)) (lines start : ℕ) → answer ≡ line_fault fault → IsValid s → AreArcs s arcs
-    → Gives before middle (site_lines s) → ((bytes : List ℕ) → Held input bytes → before ≡ Some bytes) → start ≡ 0 → lines ≡ counted start (line_count (site_lines s)) → line_count (site_lines s) ≤ 34100
+pub lines_fail : (A : Type 0) (input : Effect) (answer : Fault) (fault : ItemFault) (s : Site) (before middle : Option (List ℕ)) (lines start : ℕ) → answer ≡ line_fault fault → IsValid s
+    → GivesFront before middle (site_lines s) → ((bytes : List ℕ) → Held input bytes → before ≡ Some bytes) → start ≡ 0 → lines ≡ line_number_after start (line_count (site_lines s)) → line_count (site_lines s) ≤ 34100
     → IfRefused {A = A} (Err fault) (λ x. RefusedAfter s (reader_at AtJudged) middle lines x) → IfRead {A = A} (Err fault) (Faulted input) → ReadsLayout input (Err answer)
-lines_fail A input answer fault s arcs before middle lines start is valid are gives told none number few h read =
-    subst (λ (f : Fault). ReadsLayout input (Err f)) (sym is) (lines_end A input fault s arcs before middle lines start valid are gives told none number few h read)
+lines_fail A input answer fault s before middle lines start is valid gives told none number few h read =
+    subst (λ (f : Fault). ReadsLayout input (Err f)) (sym is) (lines_end A input fault s before middle lines start valid gives told none number few h read)
 
 -- a count that rose after the site was read rose in the call
 pub faulted_on : (A : Type 0) (fault : ItemFault) (i j k : ℕ) → i ≤ j → j ≤ k → IfRead {A = A} (Err fault) (Rose j k) → IfRead {A = A} (Err fault) (Rose i k)

@@ -8,7 +8,7 @@ use Rattle.cable_definitions.specs.declared.command.Command.TheVariants.{Plan, C
 use Rattle.cable_definitions.specs.declared.site.SiteCode.{SiteCode}
 use Rattle.cable_definitions.specs.Site.{Site}
 use Rattle.cable_definitions.specs.Refusal.{DocLine, Reader, reader_at, AtJudged, may_end, ReadsLines}
-use Rattle.proof_text.specs.Cables.{IsListed}
+use Rattle.proof_text.specs.Cables.{HasNumbersOf}
 use Rattle.document_check.specs.declared.document.Accepted.{Accepted}
 use Rattle.run_definitions.specs.declared.ending.Ending.{Ending}
 use Rattle.run_definitions.specs.declared.ending.Ending.TheVariants.{Done, Gap, Partial, Infeasible}
@@ -41,7 +41,7 @@ ReadsDocument input result = ReadsBy (IsCheckedWith input) (λ code place. ⊥) 
 
 -- a site with cables whose numbers are of that site
 abbrev pub IsSiteWithListed : Effect → Site × List Cable → Type 0
-IsSiteWithListed input (site, cables) = IsSiteWithLayout input site cables × All (IsListed site) cables
+IsSiteWithListed input (site, cables) = IsSiteWithLayout input site cables × All (HasNumbersOf site) cables
 
 -- what reading a layout that is judged gives
 abbrev pub ReadsLayout : Effect → Result (Site × List Cable) Fault → Type 0

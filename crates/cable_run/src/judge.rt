@@ -1,11 +1,11 @@
 //! The command `judge`: whether a layout is legal, with its cost, or the first rule that it breaks.
 
 ghost use Rattle.std.specs.Prelude.{◌≡◌, ◌<◌, ℕ, List, All, length};
-ghost use Rattle.cable_definitions.specs.Answers.{legal_line, broken_line, rule_word};
+ghost use Rattle.cable_definitions.specs.Answers.{legal_line, broken_line};
 ghost use Rattle.cable_text.specs.Stream.{Writes};
 ghost use Rattle.run_definitions.specs.Effect.{effect};
 ghost use Rattle.run_definitions.specs.Ends.{IsJudgement};
-ghost use Rattle.proof_text.specs.Cables.{IsListed};
+ghost use Rattle.proof_text.specs.Cables.{HasNumbersOf};
 ghost use Rattle.layout_meaning.specs.Verdict.{IsVerdict};
 ghost use Rattle.cable_run.specs.Steps.{JudgeGives};
 
@@ -44,7 +44,7 @@ fn write_verdict<O: Sink>(
     verdict: Verdict,
     out: &mut O,
 ) -> Result<(), Failed>
-    requires listed { All (IsListed site.now) layout.now }
+    requires listed { All (HasNumbersOf site.now) layout.now }
     requires verdict { IsVerdict site.now layout.now verdict }
     ensures { (text : List ℕ) × IsJudgement site.now layout.now text
         × Writes result (O.taken out.old) (O.taken out.new) (O.faults out.old) (O.faults out.new) text }
@@ -71,24 +71,5 @@ fn write_broken<O: Sink>(site: &Site, rule: Rule, a: u32, b: u32, out: &mut O) -
     let points = site.points();
     let first = Field::Word(name_of(points, a));
     let second = Field::Word(name_of(points, b));
-    push_line(b"broken", &[Field::Word(word_of(rule)), first, second], out)
-}
-
-/// The word of a rule.
-fn word_of(rule: Rule) -> &'static [u8]
-    ensures { result.now ≡ rule_word rule }
-{
-    match rule {
-        Rule::Range => b"Range",
-        Rule::Candidate => b"Candidate",
-        Rule::Start => b"Start",
-        Rule::Unjoined => b"Unjoined",
-        Rule::Bend => b"Bend",
-        Rule::Lost => b"Lost",
-        Rule::Overload => b"Overload",
-        Rule::Feeders => b"Feeders",
-        Rule::Power => b"Power",
-        Rule::Branch => b"Branch",
-        Rule::Clash => b"Clash",
-    }
+    push_line(b"broken", &[Field::Word(rule.word()), first, second], out)
 }

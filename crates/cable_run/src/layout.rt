@@ -5,13 +5,12 @@ ghost use Rattle.cable_definitions.specs.Refusal.{reader_at, AtJudged};
 ghost use Rattle.cable_text.specs.Stream.{Rose, IsAtEnd};
 ghost use Rattle.cable_text.specs.Lines.{ahead};
 ghost use Rattle.proof_text.specs.Reading.{RefusedAfter, IfRefused, IfRead};
-ghost use Rattle.proof_text.specs.Cables.{IsListed};
+ghost use Rattle.proof_text.specs.Cables.{HasNumbersOf};
 ghost use Rattle.run_definitions.specs.Effect.{effect};
 ghost use Rattle.cable_run.specs.Steps.{ReadsLayout, ReadsToEnd};
 
 use crate::fault::{Fault, of_lines, of_site};
 use cable_text::{Lines, Source};
-use candidate_cables::Arcs;
 use layout_meaning::Layout;
 use proof_text::{ItemFault, read_count, read_end, read_layout};
 use site_model::Site;
@@ -35,10 +34,6 @@ pub(crate) fn read_site_and_layout<S: Source>(
         Ok(site) => site,
         Err(fault) => return Err(of_site(fault)),
     };
-    // The definitions of a layout that is read, and of its refusal, speak of the site's arcs.
-    let Ok(_arcs) = Arcs::new(alloc, &site) else {
-        return Err(Fault::Memory);
-    };
     match read_cables(&site, &mut lines, input, &mut layout) {
         Ok(()) => {}
         Err(fault) => return Err(of_lines(fault)),
@@ -56,7 +51,7 @@ fn read_cables<S: Source>(
     requires kept { lines.old.kept ≡ None }
     requires empty { layout.old ≡ [] }
     ensures reads { OnOk result (ReadsToEnd site.now (ahead lines.old.pending (S.left input.old)) layout.new) }
-    ensures listed { OnOk result (All (IsListed site.now) layout.new) }
+    ensures listed { OnOk result (All (HasNumbersOf site.now) layout.new) }
     ensures whole { OnOk result (IsAtEnd (S.left input.new)) }
     ensures refused { IfRefused result (λ refusal. RefusedAfter site.now (reader_at AtJudged) (ahead lines.old.pending (S.left input.old)) lines.old.lines refusal) }
     ensures read { IfRead result (Rose (S.faults input.old) (S.faults input.new)) }

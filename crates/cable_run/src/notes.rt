@@ -1,14 +1,13 @@
 //! The notes on what went wrong.
 
 ghost use Rattle.std.specs.Prelude.{◌≡◌, ◌⊎◌, ◌≤◌};
-ghost use Rattle.cable_definitions.specs.Answers.{usage_note, site_note, document_note, write_fault_note, code_word, cause_word};
+ghost use Rattle.cable_definitions.specs.Answers.{usage_note, site_note, document_note, write_fault_note};
 ghost use Rattle.cable_text.specs.Stream.{Rose, Appends, Writes};
 ghost use Rattle.run_definitions.specs.Effect.{effect, Noted, NoteFailed};
 ghost use Rattle.cable_run.specs.Noted.{IsNoted, EndsAs};
 
 use crate::fault::Fault;
 use branch_tree::Refusal;
-use cable_definitions::claim::Cause;
 use cable_text::{Failed, Sink};
 use run_definitions::ending::Ending;
 use site_model::SiteCode;
@@ -80,7 +79,7 @@ fn write_site_note<E: Sink>(code: SiteCode, place: u64, note: &mut E) -> Result<
         b"site",
         &[
             refused,
-            Field::Word(word_of_code(code)),
+            Field::Word(code.word()),
             Field::Word(b"at"),
             at,
         ],
@@ -98,52 +97,13 @@ fn write_document_note<E: Sink>(refusal: Refusal, note: &mut E) -> Result<(), Fa
         b"document",
         &[
             refused,
-            Field::Word(word_of_cause(refusal.cause)),
+            Field::Word(refusal.cause.word()),
             Field::Word(b"at"),
             Field::Word(b"line"),
             line,
         ],
         note,
     )
-}
-
-/// The word of a code.
-fn word_of_code(code: SiteCode) -> &'static [u8]
-    ensures { result.now ≡ code_word code }
-{
-    match code {
-        SiteCode::TooLong => b"TooLong",
-        SiteCode::Form => b"Form",
-        SiteCode::Shape => b"Shape",
-        SiteCode::Range => b"Range",
-        SiteCode::BadName => b"BadName",
-        SiteCode::SameName => b"SameName",
-        SiteCode::SamePlace => b"SamePlace",
-        SiteCode::UnknownName => b"UnknownName",
-        SiteCode::SamePair => b"SamePair",
-        SiteCode::InObstacle => b"InObstacle",
-        SiteCode::TooMany => b"TooMany",
-    }
-}
-
-/// The word of a cause.
-fn word_of_cause(cause: Cause) -> &'static [u8]
-    ensures { result.now ≡ cause_word cause }
-{
-    match cause {
-        Cause::Line => b"Line",
-        Cause::Form => b"Form",
-        Cause::Site => b"Site",
-        Cause::Row => b"Row",
-        Cause::Limit => b"Limit",
-        Cause::Node => b"Node",
-        Cause::Weight => b"Weight",
-        Cause::Arc => b"Arc",
-        Cause::Dead => b"Dead",
-        Cause::Full => b"Full",
-        Cause::Layout => b"Layout",
-        Cause::Verdict => b"Verdict",
-    }
 }
 
 /// Notes a write fault, whatever comes of it.

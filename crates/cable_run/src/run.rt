@@ -7,8 +7,8 @@ ghost use Rattle.cable_definitions.specs.declared.command.Command.{Command as An
 ghost use Rattle.cable_definitions.specs.Site.{Site};
 ghost use Rattle.cable_definitions.specs.Tree.{Says};
 ghost use Rattle.cable_definitions.specs.Text.{site_lines};
-ghost use Rattle.cable_definitions.specs.Document.{Yes};
-ghost use Rattle.cable_definitions.specs.Refusal.{IsJudged};
+ghost use Rattle.cable_definitions.specs.Document.{IsAcceptedDocument};
+ghost use Rattle.cable_definitions.specs.Refusal.{IsSiteWithCables};
 ghost use Rattle.cable_definitions.specs.Answers.{yes_line};
 ghost use Rattle.run_definitions.specs.Bytes.{IsSiteOf, IsFrontSite};
 ghost use Rattle.run_definitions.specs.Effect.{effect, Wrote, RanWell};
@@ -73,7 +73,7 @@ pub fn run<S: Source, O: Sink, E: Sink>(
 
     // `check` says yes to each document that is accepted, and then its claim is true.
     ensures yes { (bytes : List ℕ) (s : Site) (claim : Claim) → AsksFor (texts words.now) AnyCommand.Check → S.left input.old ≡ Some bytes
-        → Yes bytes s claim
+        → IsAcceptedDocument bytes s claim
         → RanWell (effect S.left S.faults input.old input.new) (effect O.taken O.faults out.old out.new) (effect E.taken E.faults note.old note.new) result
         → (result ≡ Ending.Done) × Wrote (effect O.taken O.faults out.old out.new) (yes_line claim) × Says s claim }
 
@@ -85,13 +85,13 @@ pub fn run<S: Source, O: Sink, E: Sink>(
 
     // `judge` answers on each layout.
     ensures judgement { (bytes : List ℕ) (s : Site) (cables : List Cable) → AsksFor (texts words.now) AnyCommand.Judge → S.left input.old ≡ Some bytes
-        → IsJudged bytes s cables
+        → IsSiteWithCables bytes s cables
         → RanWell (effect S.left S.faults input.old input.new) (effect O.taken O.faults out.old out.new) (effect E.taken E.faults note.old note.new) result
         → (result ≡ Ending.Done) × ((text : List ℕ) × IsJudgement s cables text × Wrote (effect O.taken O.faults out.old out.new) text) }
 
     // `report` writes the report of each document that is accepted.
     ensures report { (bytes : List ℕ) (s : Site) (claim : Claim) → AsksFor (texts words.now) AnyCommand.Report → S.left input.old ≡ Some bytes
-        → Yes bytes s claim
+        → IsAcceptedDocument bytes s claim
         → RanWell (effect S.left S.faults input.old input.new) (effect O.taken O.faults out.old out.new) (effect E.taken E.faults note.old note.new) result
         → (result ≡ Ending.Done) × ((text : List ℕ) × IsReport (effect S.left S.faults input.old input.new) text × Wrote (effect O.taken O.faults out.old out.new) text) }
 

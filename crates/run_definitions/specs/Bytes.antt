@@ -14,14 +14,14 @@ abbrev pub IsLineForm : List ℕ → Type 0
 IsLineForm bytes = take 1 bytes ≡ 115 ∷ []
 
 -- the bytes are UTF-8 and read as this tree
-abbrev pub IsTree : List ℕ → Data → Type 0
-IsTree bytes tree = IsUtf8 bytes × (read bytes ≡ Some tree)
+abbrev pub IsJsonTree : List ℕ → Data → Type 0
+IsJsonTree bytes tree = IsUtf8 bytes × (read bytes ≡ Some tree)
 
 -- the bytes are no longer than a JSON site may be, and their tree's items are all good and give this site
 pub record IsJsonSite (bytes : List ℕ) (s : Site) : Type 0 where
   pub short : length bytes ≤ 8388608
   pub tree : Data
-  pub is_tree : IsTree bytes tree
+  pub is_tree : IsJsonTree bytes tree
   pub top : IsTrue (is_top tree)
   pub draft : Draft
   pub builds : Builds empty_draft (raw_items tree) draft
@@ -31,9 +31,9 @@ pub record IsJsonSite (bytes : List ℕ) (s : Site) : Type 0 where
 -- The fault of a JSON text: it is too long, can't be read, or has another shape at the top; or else the fault of its items.
 pub data IsJsonFault (bytes : List ℕ) : SiteCode → ℕ → Type 0 where
   too_long : 8388608 < length bytes → IsJsonFault bytes TooLong 0
-  unreadable : length bytes ≤ 8388608 → ((tree : Data) → ¬ (IsTree bytes tree)) → IsJsonFault bytes Form 0
-  other_top : (tree : Data) → length bytes ≤ 8388608 → IsTree bytes tree → ¬ (IsTrue (is_top tree)) → IsJsonFault bytes Shape 1
-  of_items : (tree : Data) (code : SiteCode) (place : ℕ) → length bytes ≤ 8388608 → IsTree bytes tree → IsTrue (is_top tree)
+  unreadable : length bytes ≤ 8388608 → ((tree : Data) → ¬ (IsJsonTree bytes tree)) → IsJsonFault bytes Form 0
+  other_top : (tree : Data) → length bytes ≤ 8388608 → IsJsonTree bytes tree → ¬ (IsTrue (is_top tree)) → IsJsonFault bytes Shape 1
+  of_items : (tree : Data) (code : SiteCode) (place : ℕ) → length bytes ≤ 8388608 → IsJsonTree bytes tree → IsTrue (is_top tree)
       → IsItemFault (raw_items tree) code place → IsJsonFault bytes code place
 
 -- the bytes are this site: its lines, or a JSON text of it

@@ -11,9 +11,9 @@ use Rattle.cable_definitions.specs.Arcs.{AreArcs, IsCandidate, kind_of, is_turbi
 use Rattle.cable_definitions.specs.Layout.{IsLegal, cost}
 use Rattle.cable_definitions.specs.Part.{IsSettled, IsStraight}
 use Rattle.cable_definitions.specs.Budget.{IsNearest, enough_budget}
-use Rattle.cable_definitions.specs.Tree.{WasFull, Node, Item, Kept, node_of, IsAccepted, Says}
+use Rattle.cable_definitions.specs.Tree.{WasFull, Node, Item, ProofState, node_of, IsAccepted, Says}
 use Rattle.cable_definitions.specs.Text.{line, site_lines, item_lines}
-use Rattle.cable_definitions.specs.Document.{Yes}
+use Rattle.cable_definitions.specs.Document.{IsAcceptedDocument}
 
 -- ---- claims
 -- the claim says that a layout is the cheapest, or that there is none
@@ -60,7 +60,7 @@ IsAtLeastFirstCables s Infeasible = Unit {0}
 --   straight             where the straight layout is legal, the claim is of a layout that costs no more;
 --   full                 the claim is of a layout that costs no more than that of any full node.
 pub record IsPlan (s : Site) (n : ℕ) (printed : List ℕ) (claim : Claim) : Type 0 where
-  pub document : Yes printed s claim
+  pub document : IsAcceptedDocument printed s claim
   pub budget_is : document.budget ≡ n
   pub says : Says s claim
   pub first_cables : IsAtLeastFirstCables s claim
@@ -76,6 +76,6 @@ pub record IsPlanBegun (s : Site) (n : ℕ) (text : List ℕ) : Type 0 where
   pub arcs : List Arc
   pub are_arcs : AreArcs s arcs
   pub items : List Item
-  pub kept : Kept
+  pub kept : ProofState
   pub accepted : IsAccepted s arcs n items kept
   pub text_is : text ≡ (site_lines s ++ line (codes "budget" ∷ decimal n ∷ [])) ++ concat (map item_lines items)
