@@ -17,7 +17,7 @@ use Rattle.cable_definitions.specs.Items.{IsLineFault}
 use Rattle.cable_definitions.specs.Document.{Yes}
 use Rattle.cable_definitions.specs.Refusal.{AtBudget, IsRefusedAfter, IsRefusedBehind}
 use Rattle.cable_definitions.specs.Report.{report_text}
-use Rattle.branch_tree.specs.declared.work.Refusal.{Refusal}
+use Rattle.cable_definitions.specs.declared.claim.Refusal.{Refusal}
 use Rattle.cable_text.specs.Stream.{Gives, IsAtEnd}
 use Rattle.site_text.specs.Reading.{counted}
 use Rattle.site_input.proofs.Forms.{behind, first_fault}

@@ -6,8 +6,7 @@ ghost use Rattle.cable_program.specs.Noted.{IsNoted};
 
 use crate::ending::Ending;
 use crate::fault::Fault;
-use branch_tree::Refusal;
-use cable_definitions::claim::Cause;
+use cable_definitions::claim::{Cause, Refusal};
 use cable_text::{Failed, Sink};
 use site_model::SiteCode;
 use site_text::{Field, push_line};
