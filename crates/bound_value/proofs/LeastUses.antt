@@ -17,7 +17,7 @@ use Rattle.site_model.specs.Best.{most_cost}
 use Rattle.site_model.proofs.Costs.{type_at}
 use Rattle.site_model.proofs.Nearest.{cost_small}
 use Rattle.proof_laws.proofs.Decided.{arc_choice}
-use Rattle.bound_value.specs.Least.{left_over, IsBestLoad, IsLeastOfType, IsLeastOfTypes, IsLeastOfTypesBelow, lesser}
+use Rattle.bound_value.specs.Least.{left_over, IsBestLoad, IsLeastOfType, IsLeastOfTypes, IsLeastOfTypesBelow, lesser_left}
 
 -- ---- a cost does not depend on the load
 -- the version that is read is the first
@@ -78,7 +78,7 @@ lesser_cases x y = by_lt_z x y (λ lt. inl (omega (arith, ints, int_min_is x y),
 
 -- one type more
 pub type_more : (s : Site) (a : Arc) (u w : ℤ) (grade : ℕ) (least : Option ℤ) (left : ℤ) → IsLeastOfType s a u w grade left → IsLeastOfTypesBelow s a u w grade least
-    → IsLeastOfTypes s a u w (grade + 1) (lesser least left)
+    → IsLeastOfTypes s a u w (grade + 1) (lesser_left least left)
 type_more s a u w grade None left t h = record {
   grade = grade;
   load = t.load;

@@ -37,6 +37,6 @@ IsLeastOfTypesBelow s arc on_use on_load bound None = (grade load : ℕ) → gra
 IsLeastOfTypesBelow s arc on_use on_load bound (Some least) = IsLeastOfTypes s arc on_use on_load bound least
 
 -- the lesser of two numbers, of which the first may be missing
-abbrev pub lesser : Option ℤ → ℤ → ℤ
-lesser None second = second
-lesser (Some first) second = int_min first second
+abbrev pub lesser_left : Option ℤ → ℤ → ℤ
+lesser_left None second = second
+lesser_left (Some first) second = int_min first second

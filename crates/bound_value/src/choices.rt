@@ -5,7 +5,7 @@ ghost use Rattle.cable_definitions.specs.declared.cable.Arc.{Arc as AnArc};
 ghost use Rattle.cable_definitions.specs.Arcs.{AreArcs, Bears, IsCandidate, kind_of};
 ghost use Rattle.cable_definitions.specs.Choice.{IsExtreme, AtMost, least_load as least_load_of};
 ghost use Rattle.site_model.specs.Best.{most_cost};
-ghost use Rattle.bound_value.specs.Least.{left_over, IsBestLoad, IsLeastOfType, IsLeastOfTypesBelow, lesser as lesser_of};
+ghost use Rattle.bound_value.specs.Least.{left_over, IsBestLoad, IsLeastOfType, IsLeastOfTypesBelow, lesser_left as lesser_of};
 
 use crate::Mark;
 use candidate_cables::{Arc, Arcs};

@@ -10,8 +10,8 @@ use Rattle.cable_definitions.specs.declared.row.Act.TheVariants.{Split, Stop, De
 use Rattle.cable_definitions.specs.Tree.{Node, node_of, worked, child, Status, WasSplit, Stopped, WasDead, WasFull}
 use Rattle.proof_laws.proofs.Boxes.{set_either, append_either}
 use Rattle.branch_tree.specs.declared.node.TreeNode.{TreeNode}
-use Rattle.branch_tree.specs.Nodes.{as_node, IsPlaced, ArePlaced}
-use Rattle.branch_tree.specs.State.{nodes_after, status_of, ActIsWithin}
+use Rattle.branch_tree.specs.Nodes.{as_node, IsPlacedNode, ArePlaced}
+use Rattle.branch_tree.specs.State.{nodes_after, status_after, ActIsWithin}
 
 -- a kept node by its number
 pub node_of-kept : (xs : List TreeNode) (n : ℕ) (d : TreeNode) → 1 ≤ n → n ≤ length xs → node_of (map as_node xs) n ≡ Some (as_node (get_or xs (n - 1) d))
@@ -33,16 +33,16 @@ kept_at xs i d h = slice_get-map as_node xs i ∙ ap (option_map as_node) (slice
 
 -- a list that was worked at one node, with its status as the act gives it
 pub worked_at : (xs : List TreeNode) (v : ℕ) (old new : TreeNode) (n : Node) (act : Act) (bound : ℕ) → 1 ≤ v → slice_get (map as_node xs) (v - 1) ≡ Some (as_node old)
-    → as_node new ≡ worked (as_node old) bound (status_of act) → node_of (map as_node xs) v ≡ Some n
-    → map as_node (slice_set xs (v - 1) new) ≡ slice_set (map as_node xs) (v - 1) (worked n bound (status_of act))
+    → as_node new ≡ worked (as_node old) bound (status_after act) → node_of (map as_node xs) v ≡ Some n
+    → map as_node (slice_set xs (v - 1) new) ≡ slice_set (map as_node xs) (v - 1) (worked n bound (status_after act))
 worked_at xs zero old new n act bound h e w f = absurd (omega arith)
 worked_at xs (suc v) old new n act bound h e w f =
     let g : slice_get (map as_node xs) v ≡ Some (as_node old) = ap (slice_get (map as_node xs)) (let q : v ≡ suc v - 1 = omega arith in q) ∙ e in
     let same : as_node old ≡ n = cc in
-    map-slice_set as_node xs (suc v - 1) new ∙ ap (slice_set (map as_node xs) (suc v - 1)) (w ∙ ap (λ (m : Node). worked m bound (status_of act)) same)
+    map-slice_set as_node xs (suc v - 1) new ∙ ap (slice_set (map as_node xs) (suc v - 1)) (w ∙ ap (λ (m : Node). worked m bound (status_after act)) same)
 
 -- an act that is no split makes no node
-pub nodes_after-no_split : (nodes : List Node) (v : ℕ) (n : Node) (act : Act) (bound : ℕ) → ((a : ℕ) → ¬ (act ≡ Split a)) → slice_set nodes (v - 1) (worked n bound (status_of act)) ≡ nodes_after nodes v n act bound
+pub nodes_after-no_split : (nodes : List Node) (v : ℕ) (n : Node) (act : Act) (bound : ℕ) → ((a : ℕ) → ¬ (act ≡ Split a)) → slice_set nodes (v - 1) (worked n bound (status_after act)) ≡ nodes_after nodes v n act bound
 nodes_after-no_split nodes v n (Split a) bound h = absurd (h a refl)
 nodes_after-no_split nodes v n Stop bound h = refl
 nodes_after-no_split nodes v n (Dead why) bound h = refl
@@ -50,14 +50,14 @@ nodes_after-no_split nodes v n Full bound h = refl
 
 -- a split makes two nodes at the end
 pub nodes_after-split : (nodes : List TreeNode) (old : List Node) (v : ℕ) (n : Node) (act : Act) (a bound : ℕ) (used unused : TreeNode) → act ≡ Split a
-    → map as_node nodes ≡ slice_set old (v - 1) (worked n bound (status_of act)) → as_node used ≡ child v bound a Used → as_node unused ≡ child v bound a Unused
+    → map as_node nodes ≡ slice_set old (v - 1) (worked n bound (status_after act)) → as_node used ≡ child v bound a Used → as_node unused ≡ child v bound a Unused
     → map as_node ((nodes ++ used ∷ []) ++ unused ∷ []) ≡ nodes_after old v n act bound
 nodes_after-split nodes old v n act a bound used unused s e f g =
     map-append as_node (nodes ++ used ∷ []) (unused ∷ [])
     ∙ ap (λ (xs : List Node). xs ++ as_node unused ∷ []) (map-append as_node nodes (used ∷ []))
     ∙ append_assoc (map as_node nodes) (as_node used ∷ []) (as_node unused ∷ [])
     ∙ (λ i. e i ++ f i ∷ g i ∷ [])
-    ∙ ap (λ (b : Act). slice_set old (v - 1) (worked n bound (status_of b)) ++ child v bound a Used ∷ child v bound a Unused ∷ []) s
+    ∙ ap (λ (b : Act). slice_set old (v - 1) (worked n bound (status_after b)) ++ child v bound a Used ∷ child v bound a Unused ∷ []) s
     ∙ ap (λ (b : Act). nodes_after old v n b bound) (sym s)
 
 -- one node changed keeps all nodes in their places
@@ -65,11 +65,11 @@ placed-set : (arcs : ℕ) (nodes : List Node) (i : ℕ) (n : Node) (bound : ℕ)
     → ArePlaced arcs (slice_set nodes i (worked n bound status))
 placed-set arcs nodes i n bound status placed e b j x f =
     elim (set_either nodes i (worked n bound status) n e j x f) [
-      | inl r ↦ subst (λ (y : Node). IsPlaced arcs j y) r.1 (subst (λ (k : ℕ). IsPlaced arcs k (worked n bound status)) (sym r.0) here)
+      | inl r ↦ subst (λ (y : Node). IsPlacedNode arcs j y) r.1 (subst (λ (k : ℕ). IsPlacedNode arcs k (worked n bound status)) (sym r.0) here)
       | inr r ↦ placed j x r.1
     ]
   where
-    here : IsPlaced arcs i (worked n bound status)
+    here : IsPlacedNode arcs i (worked n bound status)
     here =
         let p = placed i n e in
         record { parent_before = p.parent_before; within = p.within; decides = p.decides; root_free = p.root_free; small = b }
@@ -83,14 +83,14 @@ placed-children arcs nodes v bound a placed h l b w i x e =
       | inr r ↦ by_place r.0 r.1 r.2
     ]
   where
-    by_place : (j : ℕ) → i ≡ length nodes + j → slice_get (child v bound a Used ∷ child v bound a Unused ∷ []) j ≡ Some x → IsPlaced arcs i x
+    by_place : (j : ℕ) → i ≡ length nodes + j → slice_get (child v bound a Used ∷ child v bound a Unused ∷ []) j ≡ Some x → IsPlacedNode arcs i x
     by_place zero q f =
         let same : child v bound a Used ≡ x = cc in
-        subst (λ (y : Node). IsPlaced arcs i y) same
+        subst (λ (y : Node). IsPlacedNode arcs i y) same
         (record { parent_before = omega arith; within = λ _. w; decides = λ z f. absurd (cc); root_free = λ z. absurd (omega arith); small = b })
     by_place (suc zero) q f =
         let same : child v bound a Unused ≡ x = cc in
-        subst (λ (y : Node). IsPlaced arcs i y) same
+        subst (λ (y : Node). IsPlacedNode arcs i y) same
         (record { parent_before = omega arith; within = λ _. w; decides = λ z f. absurd (cc); root_free = λ z. absurd (omega arith); small = b })
     by_place (suc (suc j)) q f = absurd (cc)
 

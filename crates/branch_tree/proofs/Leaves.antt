@@ -3,7 +3,7 @@ use Rattle.std.proofs.Common.{◌≡◌, ℕ, zero, suc, ◌+◌, ◌<◌, ◌�
 use Rattle.std.specs.Prelude.{slice_get, IsTrue, Any}
 use Rattle.std.proofs.lemmas.List.{map_more}
 use Rattle.std.proofs.lemmas.Option.{slice_get_within, get_or_from_slice_get}
-use Rattle.cable_definitions.specs.Tree.{Node, Kept, is_open_leaf, IsLeastBound, AllDead}
+use Rattle.cable_definitions.specs.Tree.{Node, ProofState, is_open_leaf, IsLeastBound, AllDead}
 use Rattle.proof_laws.proofs.Boxes.{append_left, append_right, append_either}
 use Rattle.proof_laws.proofs.Lists.{all_from}
 use Rattle.branch_tree.specs.declared.node.TreeNode.{TreeNode}
@@ -68,11 +68,11 @@ least_old nodes y b h l = record {
 }
 
 -- without an open leaf all leaves are dead
-pub all_dead : (nodes : List Node) → IsLeastOf nodes None → (kept : Kept) → kept.nodes ≡ nodes → AllDead kept
+pub all_dead : (nodes : List Node) → IsLeastOf nodes None → (kept : ProofState) → kept.nodes ≡ nodes → AllDead kept
 all_dead nodes l kept e = all_from (λ v. ¬ IsTrue (is_open_leaf v.status)) kept.nodes (λ i x f. l i x (ap (λ (xs : List Node). slice_get xs i) (sym e) ∙ f))
 
 -- the least bound of what is kept
-pub least_bound_is : (nodes : List Node) (b : ℕ) → IsLeastIn nodes b → (kept : Kept) → kept.nodes ≡ nodes → IsLeastBound kept b
+pub least_bound_is : (nodes : List Node) (b : ℕ) → IsLeastIn nodes b → (kept : ProofState) → kept.nodes ≡ nodes → IsLeastBound kept b
 least_bound_is nodes b l kept e = record {
   reached = any_from (λ v. IsTrue (is_open_leaf v.status) × (v.bound ≡ b)) kept.nodes l.place l.node (ap (λ (xs : List Node). slice_get xs l.place) e ∙ l.stands) (l.is_open, l.reached);
   least = all_from (λ v. IsTrue (is_open_leaf v.status) → b ≤ v.bound) kept.nodes (λ i x f. l.least i x (ap (λ (xs : List Node). slice_get xs i) (sym e) ∙ f));

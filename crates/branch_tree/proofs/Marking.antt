@@ -8,19 +8,19 @@ use Rattle.cable_definitions.specs.declared.row.Mark.{Mark}
 use Rattle.cable_definitions.specs.declared.row.Mark.TheVariants.{Free, Used, Unused}
 use Rattle.cable_definitions.specs.Tree.{Node, mark_by, mark_in}
 use Rattle.proof_laws.proofs.Boxes.{AreParentsBefore, still_made, mark_in-still}
-use Rattle.branch_tree.specs.Nodes.{ArePlaced, elseward}
+use Rattle.branch_tree.specs.Nodes.{ArePlaced, or_mark}
 
 -- the mark of arc a in a node is that in the list, or else that in node v
 pub record IsMarked (nodes : List Node) (node : ℕ) (into : List Mark) (a v : ℕ) : Type 0 where
   pub mark : Mark
   pub stands : slice_get into a ≡ Some mark
-  pub tells : mark_in node nodes a node ≡ elseward mark (mark_in v nodes a v)
+  pub tells : mark_in node nodes a node ≡ or_mark mark (mark_in v nodes a v)
 
 -- at first all are free
 pub marked_first : (nodes : List Node) (node : ℕ) (into : List Mark) (a : ℕ) → slice_get into a ≡ Some Free → IsMarked nodes node into a node
 marked_first nodes node into a e = record { mark = Free; stands = e; tells = refl }
 
-elseward_twice : (m n : Mark) (rest : Mark) → n ≢ Free → elseward m n ≡ elseward (elseward m n) rest
+elseward_twice : (m n : Mark) (rest : Mark) → n ≢ Free → or_mark m n ≡ or_mark (or_mark m n) rest
 elseward_twice Free Free rest h = absurd (h refl)
 elseward_twice Free Used rest h = refl
 elseward_twice Free Unused rest h = refl
@@ -45,7 +45,7 @@ mark_in-parent arcs nodes placed a (suc v) x h e =
 
 -- a step to the parent
 pub marked_step : (arcs : ℕ) (nodes : List Node) → ArePlaced arcs nodes → (node v : ℕ) (old new : List Mark) (a : ℕ) (x : Node) → 1 < v → slice_get nodes (v - 1) ≡ Some x
-    → ((m : Mark) → slice_get old x.arc ≡ Some m → slice_get new x.arc ≡ Some (elseward m x.mark))
+    → ((m : Mark) → slice_get old x.arc ≡ Some m → slice_get new x.arc ≡ Some (or_mark m x.mark))
     → ((b : ℕ) → b ≢ x.arc → slice_get new b ≡ slice_get old b)
     → IsMarked nodes node old a v → IsMarked nodes node new a x.parent
 marked_step arcs nodes placed node v old new a x h e here other m =
@@ -61,24 +61,24 @@ marked_step arcs nodes placed node v old new a x h e here other m =
     by_case true t =
         let same : x.arc ≡ a = eqb-true x.arc a t in
         record {
-          mark = elseward m.mark x.mark;
+          mark = or_mark m.mark x.mark;
           stands = ap (slice_get new) (sym same) ∙ here m.mark (ap (slice_get old) same ∙ m.stands);
-          tells = m.tells ∙ ap (elseward m.mark) (up ∙ ap (λ b. cond b x.mark (mark_in x.parent nodes a x.parent)) t) ∙ elseward_twice m.mark x.mark (mark_in x.parent nodes a x.parent) decides;
+          tells = m.tells ∙ ap (or_mark m.mark) (up ∙ ap (λ b. cond b x.mark (mark_in x.parent nodes a x.parent)) t) ∙ elseward_twice m.mark x.mark (mark_in x.parent nodes a x.parent) decides;
         }
     by_case false t =
         record {
           mark = m.mark;
           stands = other a (λ q. eqb-false x.arc a t (sym q)) ∙ m.stands;
-          tells = m.tells ∙ ap (elseward m.mark) (up ∙ ap (λ b. cond b x.mark (mark_in x.parent nodes a x.parent)) t);
+          tells = m.tells ∙ ap (or_mark m.mark) (up ∙ ap (λ b. cond b x.mark (mark_in x.parent nodes a x.parent)) t);
         }
 
 -- at the root, or above it, nothing more is marked
 pub marked_last : (arcs : ℕ) (nodes : List Node) → ArePlaced arcs nodes → (node v : ℕ) (into : List Mark) (a : ℕ) → v ≤ 1 → v ≤ length nodes → IsMarked nodes node into a v
     → slice_get into a ≡ Some (mark_in node nodes a node)
 marked_last arcs nodes placed node v into a h l m =
-    m.stands ∙ ap Some (sym (m.tells ∙ ap (elseward m.mark) (root_mark v h l) ∙ nothing m.mark))
+    m.stands ∙ ap Some (sym (m.tells ∙ ap (or_mark m.mark) (root_mark v h l) ∙ nothing m.mark))
   where
-    nothing : (n : Mark) → elseward n Free ≡ n
+    nothing : (n : Mark) → or_mark n Free ≡ n
     nothing Free = refl
     nothing Used = refl
     nothing Unused = refl

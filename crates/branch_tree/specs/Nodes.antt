@@ -21,7 +21,7 @@ abbrev pub as_node : TreeNode → Node
 as_node kept = record { parent = kept.parent; arc = kept.arc; mark = kept.mark; bound = kept.bound; status = as_status kept.status }
 
 -- The node in place i, from 0: its parent stands before it, and each node but the first marks an arc used or unused. The first marks none.
-pub record IsPlaced (arcs i : ℕ) (node : Node) : Type 0 where
+pub record IsPlacedNode (arcs i : ℕ) (node : Node) : Type 0 where
   pub parent_before : node.parent ≤ i
   pub within : 1 ≤ i → node.arc < arcs
   pub decides : 1 ≤ i → node.mark ≢ Free
@@ -30,10 +30,10 @@ pub record IsPlaced (arcs i : ℕ) (node : Node) : Type 0 where
 
 -- all nodes stand so
 abbrev pub ArePlaced : ℕ → List Node → Type 0
-ArePlaced arcs nodes = (i : ℕ) (node : Node) → slice_get nodes i ≡ Some node → IsPlaced arcs i node
+ArePlaced arcs nodes = (i : ℕ) (node : Node) → slice_get nodes i ≡ Some node → IsPlacedNode arcs i node
 
 -- the works are within the budget, and made so many nodes
-pub record IsTree (tree : TreeState) (room : ℕ) : Type 0 where
+pub record IsTreeState (tree : TreeState) (room : ℕ) : Type 0 where
   pub few_works : tree.works ≤ tree.budget
   pub most_works : tree.budget ≤ 50000
   pub most_arcs : tree.arcs ≤ 65280
@@ -42,10 +42,10 @@ pub record IsTree (tree : TreeState) (room : ℕ) : Type 0 where
   pub placed : ArePlaced tree.arcs tree.nodes
 
 -- a mark, or the other one where it is free
-abbrev pub elseward : Mark → Mark → Mark
-elseward Free other = other
-elseward Used other = Used
-elseward Unused other = Unused
+abbrev pub or_mark : Mark → Mark → Mark
+or_mark Free other = other
+or_mark Used other = Used
+or_mark Unused other = Unused
 
 -- some leaf that isn't dead has this bound, and none has a lesser one
 pub record IsLeastIn (nodes : List Node) (bound : ℕ) : Type 0 where

@@ -17,11 +17,11 @@ abbrev pub new_tree : ℕ → ℕ → TreeState
 new_tree budget arcs = record { budget = budget; arcs = arcs; nodes = root ∷ []; works = 0 }
 
 -- what an act makes of its node
-abbrev pub status_of : Act → Status
-status_of (Split a) = WasSplit
-status_of Stop = Stopped
-status_of (Dead why) = WasDead
-status_of Full = WasFull
+abbrev pub status_after : Act → Status
+status_after (Split a) = WasSplit
+status_after Stop = Stopped
+status_after (Dead why) = WasDead
+status_after Full = WasFull
 
 -- the nodes after an act on node number v, which is this node and has this bound then
 abbrev pub nodes_after : List Node → ℕ → Node → Act → ℕ → List Node

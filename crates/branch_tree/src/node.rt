@@ -2,8 +2,8 @@ ghost use Rattle.std.specs.Prelude.{◌≡◌, ℕ, ◌+◌, ◌-◌, ◌*◌, �
 ghost use Rattle.std.specs.Option.{option_map};
 ghost use Rattle.cable_definitions.specs.declared.row.Mark.{Mark as AMark};
 ghost use Rattle.cable_definitions.specs.Tree.{Node, node_of, Unworked as UnworkedStatus, mark_in, child as child_of, root as root_node, is_open_leaf as is_open_leaf_of};
-ghost use Rattle.branch_tree.specs.Nodes.{as_node, as_status, ArePlaced, elseward, IsLeastOf};
-ghost use Rattle.branch_tree.specs.State.{nodes_after, status_of};
+ghost use Rattle.branch_tree.specs.Nodes.{as_node, as_status, ArePlaced, or_mark, IsLeastOf};
+ghost use Rattle.branch_tree.specs.State.{nodes_after, status_after};
 
 use bound_value::Decisions;
 use cable_definitions::row::{Act, Mark};
@@ -53,7 +53,7 @@ fn kept_node(nodes: &[TreeNode], node: u32) -> TreeNode
 
 /// What an act makes of a node.
 fn status_after(act: Act) -> NodeStatus
-    ensures { as_status result ≡ status_of act }
+    ensures { as_status result ≡ status_after act }
 {
     match act {
         Act::Split(arc) => NodeStatus::WasSplit,
@@ -115,7 +115,7 @@ pub(crate) fn free_all(into: &mut Decisions, arcs: u32)
 fn mark_if_free(into: &mut Decisions, arc: u32, mark: Mark)
     requires { arc < length into.old }
     ensures count { length into.new ≡ length into.old }
-    ensures here { (m : AMark) → slice_get into.old arc ≡ Some m → slice_get into.new arc ≡ Some (elseward m mark) }
+    ensures here { (m : AMark) → slice_get into.old arc ≡ Some m → slice_get into.new arc ≡ Some (or_mark m mark) }
     ensures elsewhere { (a : ℕ) → a ≢ arc → slice_get into.new a ≡ slice_get into.old a }
 {
     match into.mark(arc) {

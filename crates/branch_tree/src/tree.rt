@@ -1,6 +1,6 @@
 ghost use Rattle.std.specs.Prelude.{◌≡◌, ℕ, ◌+◌, ◌^◌, ◌≤◌, ◌<◌, ◌↔◌, ◌≢◌, pos, nat_abs, ◌≤ℤ◌, ◌<ℤ◌, List, length, IsTrue, IfOk, OnOk, OnErr, IfSome, IfNone, Some, None};
 ghost use Rattle.cable_definitions.specs.declared.cable.Arc.{Arc};
-ghost use Rattle.cable_definitions.specs.Tree.{Node, node_of, marks_of, Kept, IsLeastBound, AllDead, Unworked as UnworkedStatus};
+ghost use Rattle.cable_definitions.specs.Tree.{Node, node_of, marks_of, ProofState, IsLeastBound, AllDead, Unworked as UnworkedStatus};
 ghost use Rattle.branch_tree.specs.State.{TreeState, new_tree, tree_after, IsMade, IsUnworked, ActIsWithin};
 
 use crate::node::{
@@ -37,11 +37,11 @@ impl Model for Tree {
 
     ghost Value = { TreeState };
 
-    ghost use Rattle.branch_tree.specs.Nodes.{as_node, IsTree};
+    ghost use Rattle.branch_tree.specs.Nodes.{as_node, IsTreeState};
 
     ghost view = { λ t. record { budget = t.budget; arcs = t.arcs; nodes = map as_node t.nodes.items; works = t.works } };
 
-    ghost invariant = { λ t. IsTree (record { budget = t.budget; arcs = t.arcs; nodes = map as_node t.nodes.items; works = t.works }) (vec_capacity t.nodes) };
+    ghost invariant = { λ t. IsTreeState (record { budget = t.budget; arcs = t.arcs; nodes = map as_node t.nodes.items; works = t.works }) (vec_capacity t.nodes) };
 }
 
 impl Tree {
@@ -149,9 +149,9 @@ impl Tree {
 
     /// The least bound of the leaves that aren't dead, in cost units; none exactly where all leaves are dead.
     pub fn least(&self) -> Option<i128>
-        ensures some { IfSome result (λ bound. (kept : Kept) → kept.nodes ≡ self.now.nodes → IsLeastBound kept (nat_abs bound)) }
+        ensures some { IfSome result (λ bound. (kept : ProofState) → kept.nodes ≡ self.now.nodes → IsLeastBound kept (nat_abs bound)) }
         ensures not_negative { IfSome result (λ bound. pos 0 ≤ℤ bound) }
-        ensures none { IfNone result ((kept : Kept) → kept.nodes ≡ self.now.nodes → AllDead kept) }
+        ensures none { IfNone result ((kept : ProofState) → kept.nodes ≡ self.now.nodes → AllDead kept) }
     {
         match least_bound(self.nodes.as_slice()) {
             None => None,

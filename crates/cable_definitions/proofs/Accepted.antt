@@ -20,7 +20,7 @@ use Rattle.cable_definitions.specs.Arcs.{IsPoint, IsCandidate, AreArcs, kind_of,
 use Rattle.cable_definitions.specs.Walk.{most_steps}
 use Rattle.cable_definitions.specs.Row.{Row, is_equation, Question, SomeMember, RightCount, InRange, Ascending, RightKind, NoSubstation, Incompatible, Meets}
 use Rattle.cable_definitions.specs.Choice.{Choice, NoCable, Carries, IsChoice, AreLawful, reduced_cost, AtMost, IsValue}
-use Rattle.cable_definitions.specs.Tree.{Item, RowItem, WorkItem, Kept, root, worked, Stopped, IsBound, IsAccepted, Agrees, is_open_leaf}
+use Rattle.cable_definitions.specs.Tree.{Item, RowItem, WorkItem, ProofState, root, worked, Stopped, IsBound, IsAccepted, Agrees, is_open_leaf}
 use Rattle.cable_definitions.specs.Text.{document_text}
 use Rattle.cable_definitions.proofs.Sites.{arc, cable, two_points, only_arc, out_row}
 use Rattle.cable_definitions.proofs.Plans.{arc_is_candidate, one_cable_is_legal}
@@ -197,10 +197,10 @@ bound = record { parent = omega arith; value_below = omega (arith, ints); least 
 abbrev items : List Item
 items = RowItem out_row ∷ WorkItem 1 weights Stop ∷ []
 
-abbrev pub after_row : Kept
+abbrev pub after_row : ProofState
 after_row = record { rows = out_row ∷ []; nodes = root ∷ []; works = 0 }
 
-abbrev after_work : Kept
+abbrev after_work : ProofState
 after_work = record { rows = out_row ∷ []; nodes = worked root 50000 Stopped ∷ []; works = 1 }
 
 pub items_are_accepted : IsAccepted two_points only_arc 10 items after_work

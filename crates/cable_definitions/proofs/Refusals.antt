@@ -7,7 +7,7 @@ use Rattle.cable_definitions.specs.Numeral.{numeral}
 use Rattle.cable_definitions.specs.declared.claim.Cause.{Cause}
 use Rattle.cable_definitions.specs.declared.claim.Cause.TheVariants.{Line, Form, Site, Row, Limit, Node, Weight, Arc, Dead, Full, Layout, Verdict}
 use Rattle.cable_definitions.specs.Text.{IsWord, Piece, Whole, LongLine, CutLine, NoLine}
-use Rattle.cable_definitions.specs.Refusal.{BudgetLine, IsLineAt, IsWithinLimits, spelling, AtBudget, reader_at, IsRefusedAfter, IsFoundByReading, cause_number}
+use Rattle.cable_definitions.specs.Refusal.{BudgetLine, IsLineAt, IsWithinLimits, line_spelling, AtBudget, reader_at, IsRefusedAfter, IsFoundByReading, cause_number}
 use Rattle.cable_definitions.proofs.Sites.{fork}
 
 -- no cause comes before the first
@@ -68,7 +68,7 @@ budget_is_word = record { not_empty = λ e. absurd (omega (arith, ap length e));
 zero_is_word : IsWord (48 ∷ [])
 zero_is_word = record { not_empty = λ e. absurd (omega (arith, ap length e)); no_space = zero_without 32 refl; no_newline = zero_without 10 refl }
 
-are_words : All IsWord (spelling (BudgetLine (pos 0)))
+are_words : All IsWord (line_spelling (BudgetLine (pos 0)))
 unfolding numeral
 are_words zero d l = budget_is_word
 are_words (suc zero) d l = zero_is_word

@@ -13,8 +13,8 @@ use Rattle.cable_definitions.specs.Plane.{length_of, root_bits}
 use Rattle.cable_definitions.specs.Arcs.{cost_of, Bears, IsCheapest}
 use Rattle.cable_definitions.specs.Walk.{most_steps, load}
 use Rattle.cable_definitions.specs.Choice.{Choice, NoCable, Carries, IsChoice, AreLawful, reduced_cost, AtMost, IsValue}
-use Rattle.cable_definitions.specs.Tree.{Item, RowItem, WorkItem, Kept, nothing_kept, root, worked, child, WasSplit, WasFull, WasDead, IsBound, IsFull, IsListed, IsWorked, IsAccepted, is_open_leaf}
-use Rattle.cable_definitions.specs.Document.{Yes}
+use Rattle.cable_definitions.specs.Tree.{Item, RowItem, WorkItem, ProofState, empty_state, root, worked, child, WasSplit, WasFull, WasDead, IsBound, IsFull, IsListed, IsWorked, IsAccepted, is_open_leaf}
+use Rattle.cable_definitions.specs.Document.{IsAcceptedDocument}
 use Rattle.cable_definitions.specs.Built.{IsBuiltItem}
 use Rattle.cable_definitions.specs.Plan.{IsPlanned}
 use Rattle.cable_definitions.proofs.Sites.{arc, cable, two_points, only_arc, out_row}
@@ -99,16 +99,16 @@ full = record { starts = refl; ends = refl; cheapest = all_cheapest; legal = one
 abbrev items : List Item
 items = RowItem out_row ∷ WorkItem 1 [] (Split 0) ∷ WorkItem 2 [] Full ∷ WorkItem 3 [] (Dead (RowWhy 0)) ∷ []
 
-abbrev after_split : Kept
+abbrev after_split : ProofState
 after_split = record { rows = out_row ∷ []; nodes = worked root 0 WasSplit ∷ child 1 0 0 Used ∷ child 1 0 0 Unused ∷ []; works = 1 }
 
-abbrev after_full : Kept
+abbrev after_full : ProofState
 after_full = record { rows = out_row ∷ []; nodes = worked root 0 WasSplit ∷ worked (child 1 0 0 Used) 50000 WasFull ∷ child 1 0 0 Unused ∷ []; works = 2 }
 
-abbrev after_dead : Kept
+abbrev after_dead : ProofState
 after_dead = record { rows = out_row ∷ []; nodes = worked root 0 WasSplit ∷ worked (child 1 0 0 Used) 50000 WasFull ∷ worked (child 1 0 0 Unused) 0 WasDead ∷ []; works = 3 }
 
-row_is_listed : IsListed two_points only_arc nothing_kept out_row after_row
+row_is_listed : IsListed two_points only_arc empty_state out_row after_row
 row_is_listed = record { well_formed = well_formed; rows_count = omega arith; members_count = omega arith; rows = refl; nodes = refl; works = refl }
 
 root_is_split : IsWorked two_points only_arc 8191 after_row 1 [] (Split 0) after_split
@@ -174,7 +174,7 @@ built_items (suc (suc zero)) d l = omega arith
 built_items (suc (suc (suc zero))) d l = omega arith
 built_items (suc (suc (suc (suc k)))) d l = absurd (omega (arith, l))
 
-pub document_is_accepted : Yes (codes "site 1\nmode tree\ntype 400 100\nsubstation S 0 0 4 10000\nturbine A 300 400 100\nend site\nbudget 8191\nrow out 1\nwork 1 0\nsplit 0\nwork 2 0\nfull\nwork 3 0\ndead row 0\nlayout 1\ncable A S 0\noptimal 50000\nend document\n") two_points (Optimal 50000)
+pub document_is_accepted : IsAcceptedDocument (codes "site 1\nmode tree\ntype 400 100\nsubstation S 0 0 4 10000\nturbine A 300 400 100\nend site\nbudget 8191\nrow out 1\nwork 1 0\nsplit 0\nwork 2 0\nfull\nwork 3 0\ndead row 0\nlayout 1\ncable A S 0\noptimal 50000\nend document\n") two_points (Optimal 50000)
 unfolding digits most_steps length_of root_bits
 document_is_accepted = record {
   arcs = only_arc;

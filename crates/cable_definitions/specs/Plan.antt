@@ -5,14 +5,14 @@ use Rattle.cable_definitions.specs.declared.cable.Arc.{Arc}
 use Rattle.cable_definitions.specs.declared.claim.Claim.{Claim}
 use Rattle.cable_definitions.specs.Site.{Site}
 use Rattle.cable_definitions.specs.Arcs.{AreArcs}
-use Rattle.cable_definitions.specs.Tree.{Item, Kept, IsAccepted, Says}
+use Rattle.cable_definitions.specs.Tree.{Item, ProofState, IsAccepted, Says}
 use Rattle.cable_definitions.specs.Text.{document_text}
-use Rattle.cable_definitions.specs.Document.{Yes}
+use Rattle.cable_definitions.specs.Document.{IsAcceptedDocument}
 
 -- The printed bytes are a document of the site and the budget n: accepted items, a layout and a claim that agree; and what the claim says of all
 -- legal layouts is true.
 pub record IsPlanned (s : Site) (n : ℕ) (printed : List ℕ) (claim : Claim) : Type 0 where
-  pub document : Yes printed s claim
+  pub document : IsAcceptedDocument printed s claim
   pub budget_is : document.budget ≡ n
   pub says : Says s claim
 
@@ -22,7 +22,7 @@ pub record IsPlanBegun (s : Site) (n : ℕ) (text : List ℕ) : Type 0 where
   pub arcs : List Arc
   pub are_arcs : AreArcs s arcs
   pub items : List Item
-  pub kept : Kept
+  pub kept : ProofState
   pub accepted : IsAccepted s arcs n items kept
   pub cables : List Cable
   pub claim : Claim

@@ -14,10 +14,10 @@ use Rattle.layout_meaning.specs.declared.verdict.Verdict.{Verdict}
 use Rattle.layout_meaning.specs.declared.verdict.Verdict.TheVariants.{Legal, Broken}
 use Rattle.layout_meaning.specs.Verdict.{IsVerdict}
 use Rattle.cable_definitions.proofs.Lists.{listed_out}
-use Rattle.proof_text.specs.Cables.{IsListed}
+use Rattle.proof_text.specs.Cables.{HasNumbersOf}
 
-listed_at : (s : Site) (cables : List Cable) (i : ℕ) (c : Cable) → All (IsListed s) cables → IsCable cables i c → IsListed s c
-listed_at s cables i c all e = subst (λ (d : Cable). IsListed s d) (get_or_from_slice_get cables i c c e) (all i c (slice_get_within cables i c e))
+listed_at : (s : Site) (cables : List Cable) (i : ℕ) (c : Cable) → All (HasNumbersOf s) cables → IsCable cables i c → HasNumbersOf s c
+listed_at s cables i c all e = subst (λ (d : Cable). HasNumbersOf s d) (get_or_from_slice_get cables i c c e) (all i c (slice_get_within cables i c e))
 
 none_past : (s : Site) (p : ℕ) → length s.points ≤ p → slice_get s.points p ≡ None
 none_past s p h = slice_get_past s.points p h
@@ -38,11 +38,11 @@ within s p Kept broken past = ⊎_elim (λ h. h) (λ h. absurd (broken (past h))
 both : (n p a b : ℕ) → p < n → a ≡ p → b ≡ p → (a < n) × (b < n)
 both n p a b h e f = (omega (arith, h, e), omega (arith, h, f))
 
-starts_past : (s : Site) (cables : List Cable) (i p : ℕ) (c : Cable) → All (IsListed s) cables → IsCable cables i c → c.from ≡ p → length s.points ≤ p → ⊥
+starts_past : (s : Site) (cables : List Cable) (i p : ℕ) (c : Cable) → All (HasNumbersOf s) cables → IsCable cables i c → c.from ≡ p → length s.points ≤ p → ⊥
 starts_past s cables i p c all e f h = absurd (omega (arith, (listed_at s cables i c all e).from, f, h))
 
 -- what is named of cables with numbers of the site are points of the site
-pub points_named : (s : Site) (cables : List Cable) (rule : Rule) (a b : ℕ) → All (IsListed s) cables → IsFirstBroken s cables rule a b → (a < length s.points) × (b < length s.points)
+pub points_named : (s : Site) (cables : List Cable) (rule : Rule) (a b : ℕ) → All (HasNumbersOf s) cables → IsFirstBroken s cables rule a b → (a < length s.points) × (b < length s.points)
 points_named s cables Range a b all f =
     absurd (f.broken (record {
       from = λ c e. (listed_at s cables f.place c all e).from;

@@ -14,12 +14,12 @@ use Rattle.cable_definitions.specs.Arcs.{AreArcs}
 use Rattle.cable_definitions.specs.Tree.{Item, LayoutAgrees}
 use Rattle.cable_definitions.specs.Text.{line, item_lines, cable_line, claim_line, site_lines, line_count, document_text}
 use Rattle.cable_definitions.specs.Items.{IsLineFault}
-use Rattle.cable_definitions.specs.Document.{Yes}
+use Rattle.cable_definitions.specs.Document.{IsAcceptedDocument}
 use Rattle.cable_definitions.specs.Refusal.{AtBudget, IsRefusedAfter, IsRefusedBehind}
 use Rattle.cable_definitions.specs.Report.{report_text}
 use Rattle.cable_definitions.specs.declared.claim.Refusal.{Refusal}
-use Rattle.cable_text.specs.Stream.{Gives, IsAtEnd}
-use Rattle.site_text.specs.Reading.{counted}
+use Rattle.cable_text.specs.Stream.{GivesFront, IsAtEnd}
+use Rattle.site_text.specs.Reading.{lines_after}
 use Rattle.site_input.proofs.Forms.{behind, first_fault}
 use Rattle.site_model.specs.declared.fault.SiteFault.{SiteFault}
 use Rattle.site_model.specs.declared.fault.SiteFault.TheVariants.{Refused as RefusedSite, Read as SiteRead, Memory as SiteMemory}
@@ -48,7 +48,7 @@ site_in_front s n items cables claim =
 
 -- the document of a site and of what is accepted behind it
 yes_behind : (s : Site) (middle : Option (List ℕ)) (cables : List Cable) (claim : Claim) → IsValid s → (h : IsAcceptedBehind s middle cables claim)
-    → Yes (document_text s h.budget h.items cables claim) s claim
+    → IsAcceptedDocument (document_text s h.budget h.items cables claim) s claim
 yes_behind s middle cables claim valid h = record {
   arcs = h.arcs;
   budget = h.budget;
@@ -67,14 +67,14 @@ yes_behind s middle cables claim valid h = record {
 }
 
 -- the bytes that are told are that document
-bytes_are : (s : Site) (before middle : Option (List ℕ)) (cables : List Cable) (claim : Claim) (told : List ℕ) → Gives before middle (site_lines s) → (h : IsAcceptedBehind s middle cables claim)
+bytes_are : (s : Site) (before middle : Option (List ℕ)) (cables : List Cable) (claim : Claim) (told : List ℕ) → GivesFront before middle (site_lines s) → (h : IsAcceptedBehind s middle cables claim)
     → before ≡ Some told → told ≡ document_text s h.budget h.items cables claim
 bytes_are s before middle cables claim told gives h is =
     let b = behind before middle (site_lines s) told gives is in
     b.1 ∙ ap (λ (rest : List ℕ). site_lines s ++ rest) (h.text b.0 b.2) ∙ site_in_front s h.budget h.items cables claim
 
 -- a site that is read, and what is accepted behind it
-pub document_checked : (input : Stream) (s : Site) (before middle : Option (List ℕ)) (accepted : Accepted) → IsValid s → Gives before middle (site_lines s)
+pub document_checked : (input : Stream) (s : Site) (before middle : Option (List ℕ)) (accepted : Accepted) → IsValid s → GivesFront before middle (site_lines s)
     → ((bytes : List ℕ) → Told input bytes → before ≡ Some bytes) → IsAcceptedBehind s middle accepted.layout accepted.claim → IsAtEnd input.after → ReadsDocument input (Ok (s, accepted))
 unfolding yes_behind
 document_checked input s before middle accepted valid gives told h ended =
@@ -107,8 +107,8 @@ pub site_fails : (input : Stream) (fault : SiteFault) (answer : Fault) (lines : 
 site_fails input fault answer lines before is none told refused read = subst (λ (f : Fault). ReadsDocument input (Err f)) (sym is) (fault_ends input fault lines before none told refused read)
 
 -- a refusal behind a site
-refused_behind_site : (s : Site) (arcs : List Arc) (before middle : Option (List ℕ)) (bytes : List ℕ) (lines start : ℕ) (x : Refusal) → IsValid s → AreArcs s arcs → Gives before middle (site_lines s)
-    → before ≡ Some bytes → start ≡ 0 → lines ≡ counted start (line_count (site_lines s)) → line_count (site_lines s) ≤ 34100
+refused_behind_site : (s : Site) (arcs : List Arc) (before middle : Option (List ℕ)) (bytes : List ℕ) (lines start : ℕ) (x : Refusal) → IsValid s → AreArcs s arcs → GivesFront before middle (site_lines s)
+    → before ≡ Some bytes → start ≡ 0 → lines ≡ lines_after start (line_count (site_lines s)) → line_count (site_lines s) ≤ 34100
     → ((rest : List ℕ) → middle ≡ Some rest → lines + 60000000 < 2 ^ 64 → IsRefusedAfter s arcs AtBudget rest (lines + 1) x.line x.cause) → IsRefusedBehind AtBudget bytes 1 x.line x.cause
 refused_behind_site s arcs before middle bytes lines start x valid are gives told none number few h =
     let b = behind before middle (site_lines s) bytes gives told in
@@ -123,8 +123,8 @@ refused_behind_site s arcs before middle bytes lines start x valid are gives tol
     }
 
 -- how the fault of a document behind its site ends the reading
-fault_behind_ends : (input : Stream) (fault : DocumentFault) (s : Site) (arcs : List Arc) (before middle : Option (List ℕ)) (lines start : ℕ) → IsValid s → AreArcs s arcs → Gives before middle (site_lines s)
-    → ((bytes : List ℕ) → Told input bytes → before ≡ Some bytes) → start ≡ 0 → lines ≡ counted start (line_count (site_lines s)) → line_count (site_lines s) ≤ 34100
+fault_behind_ends : (input : Stream) (fault : DocumentFault) (s : Site) (arcs : List Arc) (before middle : Option (List ℕ)) (lines start : ℕ) → IsValid s → AreArcs s arcs → GivesFront before middle (site_lines s)
+    → ((bytes : List ℕ) → Told input bytes → before ≡ Some bytes) → start ≡ 0 → lines ≡ lines_after start (line_count (site_lines s)) → line_count (site_lines s) ≤ 34100
     → ((x : Refusal) (rest : List ℕ) (others : List Arc) → ◌≡◌ {A = Result Accepted DocumentFault} (Err fault) (Err (RefusedDocument x)) → middle ≡ Some rest → AreArcs s others
     → lines + 60000000 < 2 ^ 64 → IsRefusedAfter s others AtBudget rest (lines + 1) x.line x.cause)
     → (◌≡◌ {A = Result Accepted DocumentFault} (Err fault) (Err DocumentRead) → Faulted input) → ReadsDocument input (Err (document_fault fault))
@@ -134,8 +134,8 @@ fault_behind_ends input DocumentRead s arcs before middle lines start valid are 
 fault_behind_ends input DocumentMemory s arcs before middle lines start valid are gives told none number few refused read = tt
 
 pub document_fails : (input : Stream) (fault : DocumentFault) (answer : Fault) (s : Site) (arcs : List Arc) (before middle : Option (List ℕ)) (lines start : ℕ) → answer ≡ document_fault fault
-    → IsValid s → AreArcs s arcs → Gives before middle (site_lines s)
-    → ((bytes : List ℕ) → Told input bytes → before ≡ Some bytes) → start ≡ 0 → lines ≡ counted start (line_count (site_lines s)) → line_count (site_lines s) ≤ 34100
+    → IsValid s → AreArcs s arcs → GivesFront before middle (site_lines s)
+    → ((bytes : List ℕ) → Told input bytes → before ≡ Some bytes) → start ≡ 0 → lines ≡ lines_after start (line_count (site_lines s)) → line_count (site_lines s) ≤ 34100
     → ((x : Refusal) (rest : List ℕ) (others : List Arc) → ◌≡◌ {A = Result Accepted DocumentFault} (Err fault) (Err (RefusedDocument x)) → middle ≡ Some rest → AreArcs s others
     → lines + 60000000 < 2 ^ 64 → IsRefusedAfter s others AtBudget rest (lines + 1) x.line x.cause)
     → (◌≡◌ {A = Result Accepted DocumentFault} (Err fault) (Err DocumentRead) → Faulted input) → ReadsDocument input (Err answer)

@@ -11,8 +11,8 @@ use Rattle.cable_definitions.specs.declared.command.Command.TheVariants.{Plan, C
 use Rattle.cable_definitions.specs.Site.{Site}
 use Rattle.cable_definitions.specs.Tree.{Says}
 use Rattle.cable_definitions.specs.Text.{site_lines}
-use Rattle.cable_definitions.specs.Document.{Yes}
-use Rattle.cable_definitions.specs.Refusal.{IsJudged}
+use Rattle.cable_definitions.specs.Document.{IsAcceptedDocument}
+use Rattle.cable_definitions.specs.Refusal.{IsSiteWithCables}
 use Rattle.cable_definitions.specs.Answers.{yes_line}
 use Rattle.cable_text.specs.Stream.{IsAtEnd}
 use Rattle.site_json.specs.Bytes.{IsSiteOf, IsFrontSite}
@@ -53,10 +53,10 @@ said : (bytes : List ℕ) (s t : Site) (claim other : Claim) (out : Stream) → 
 said bytes s t claim other out same one got says =
     (refl, subst (λ (c : Claim). Got out (yes_line c)) one got, subst (λ (u : Site). Says u claim) same (subst (λ (c : Claim). Says t c) one says))
 
-read_as : (bytes other : List ℕ) (s : Site) (claim : Claim) → bytes ≡ other → Yes other s claim → Yes bytes s claim
-read_as bytes other s claim e y = subst (λ (b : List ℕ). Yes b s claim) (sym e) y
+read_as : (bytes other : List ℕ) (s : Site) (claim : Claim) → bytes ≡ other → IsAcceptedDocument other s claim → IsAcceptedDocument bytes s claim
+read_as bytes other s claim e y = subst (λ (b : List ℕ). IsAcceptedDocument b s claim) (sym e) y
 
-pub yes_of : (bytes : List ℕ) (s : Site) (claim : Claim) (input out note : Stream) (ending : Ending) → CheckEnds input out note ending → Told input bytes → Yes bytes s claim
+pub yes_of : (bytes : List ℕ) (s : Site) (claim : Claim) (input out note : Stream) (ending : Ending) → CheckEnds input out note ending → Told input bytes → IsAcceptedDocument bytes s claim
     → RanWell input out note ending → (ending ≡ Done) × Got out (yes_line claim) × Says s claim
 yes_of bytes s claim input out note Done h b y r =
     let checked = h.0.2 in
@@ -92,7 +92,7 @@ judged_as : (s t : Site) (cables others : List Cable) (text : List ℕ) → t �
 judged_as s t cables others text same one j =
     subst (λ (u : Site). IsJudgement u cables text) same (subst (λ (c : List Cable). IsJudgement t c text) one j)
 
-pub judgement_of : (bytes : List ℕ) (s : Site) (cables : List Cable) (input out note : Stream) (ending : Ending) → JudgeEnds input out note ending → Told input bytes → IsJudged bytes s cables
+pub judgement_of : (bytes : List ℕ) (s : Site) (cables : List Cable) (input out note : Stream) (ending : Ending) → JudgeEnds input out note ending → Told input bytes → IsSiteWithCables bytes s cables
     → RanWell input out note ending → (ending ≡ Done) × ((text : List ℕ) × IsJudgement s cables text × Got out text)
 judgement_of bytes s cables input out note Done h b j r =
     let answer = h.0 in
@@ -112,7 +112,7 @@ judgement_of bytes s cables input out note EndsOpen h b j r = absurd h
 judgement_of bytes s cables input out note EndsInfeasible h b j r = absurd h
 
 -- ---- report
-pub report_of : (bytes : List ℕ) (s : Site) (claim : Claim) (input out note : Stream) (ending : Ending) → ReportEnds input out note ending → Told input bytes → Yes bytes s claim
+pub report_of : (bytes : List ℕ) (s : Site) (claim : Claim) (input out note : Stream) (ending : Ending) → ReportEnds input out note ending → Told input bytes → IsAcceptedDocument bytes s claim
     → RanWell input out note ending → (ending ≡ Done) × ((text : List ℕ) × IsReport input text × Got out text)
 report_of bytes s claim input out note Done h b y r = (refl, h.0)
 report_of bytes s claim input out note DocumentRefused h b y r = absurd (yes-stands bytes s claim 1 h.0 h.1 y (h.2 bytes b))

@@ -12,9 +12,9 @@ use Rattle.cable_definitions.specs.declared.site.SiteCode.{SiteCode}
 use Rattle.cable_definitions.specs.Items.{Field, within, IsLineFault}
 use Rattle.cable_definitions.specs.Refusal.{DocLine, BudgetLine, RowLine, WorkLine, WeightLine, ActLine, LayoutLine, CableLine, ClaimLine, EndLine, Phase, AtJudged, AtAnyCables, Reader, reader_at, is_allowed, after_cable, IsReadable, ReadsLines, IsRefusedAfter, IsRefusedBehind}
 use Rattle.cable_definitions.specs.declared.claim.Refusal.{Refusal}
-use Rattle.cable_text.specs.Stream.{Rose, Gives}
+use Rattle.cable_text.specs.Stream.{Rose, GivesFront}
 use Rattle.cable_text.proofs.Writing.{Rose-after}
-use Rattle.proof_text.specs.Reading.{counted, RefusedAfter, IsRefusedHere, IfRefused, IfRead}
+use Rattle.proof_text.specs.Reading.{line_number_after, RefusedAfter, IsRefusedHere, IfRefused, IfRead}
 use Rattle.site_input.proofs.Forms.{behind, first_fault}
 use Rattle.site_model.specs.declared.fault.SiteFault.{SiteFault}
 use Rattle.site_model.specs.declared.fault.SiteFault.TheVariants.{Refused as RefusedSite, Read as SiteRead, Memory as SiteMemory}
@@ -102,7 +102,7 @@ after_of s middle rest lines x e h = subst (λ (m : Option (List ℕ)). RefusedA
 
 -- a refusal behind a site
 pub refused_behind_site : (s : Site) (arcs : List Arc) (before middle : Option (List ℕ)) (bytes : List ℕ) (lines start : ℕ) (x : Refusal) → IsValid s → AreArcs s arcs
-    → Gives before middle (site_lines s) → before ≡ Some bytes → start ≡ 0 → lines ≡ counted start (line_count (site_lines s)) → line_count (site_lines s) ≤ 34100
+    → GivesFront before middle (site_lines s) → before ≡ Some bytes → start ≡ 0 → lines ≡ line_number_after start (line_count (site_lines s)) → line_count (site_lines s) ≤ 34100
     → RefusedAfter s (reader_at AtJudged) middle lines x → IsRefusedBehind AtJudged bytes 1 x.line x.cause
 refused_behind_site s arcs before middle bytes lines start x valid are gives told none number few h =
     let b = behind before middle (site_lines s) bytes gives told in
@@ -135,14 +135,14 @@ site_fails input answer fault lines told_ahead is none told refused read =
     subst (λ (f : Fault). ReadsLayout input (Err f)) (sym is) (site_ends input fault lines told_ahead none told refused read)
 
 lines_end : (A : Type 0) (input : Stream) (fault : ItemFault) (s : Site) (arcs : List Arc) (before middle : Option (List ℕ)) (lines start : ℕ) → IsValid s → AreArcs s arcs
-    → Gives before middle (site_lines s) → ((bytes : List ℕ) → Told input bytes → before ≡ Some bytes) → start ≡ 0 → lines ≡ counted start (line_count (site_lines s)) → line_count (site_lines s) ≤ 34100
+    → GivesFront before middle (site_lines s) → ((bytes : List ℕ) → Told input bytes → before ≡ Some bytes) → start ≡ 0 → lines ≡ line_number_after start (line_count (site_lines s)) → line_count (site_lines s) ≤ 34100
     → IfRefused {A = A} (Err fault) (λ x. RefusedAfter s (reader_at AtJudged) middle lines x) → IfRead {A = A} (Err fault) (Faulted input) → ReadsLayout input (Err (line_fault fault))
 lines_end A input (RefusedLine x) s arcs before middle lines start valid are gives told none number few h read =
     λ bytes t. refused_behind_site s arcs before middle bytes lines start x valid are gives (told bytes t) none number few h
 lines_end A input LineRead s arcs before middle lines start valid are gives told none number few h read = read
 
 pub lines_fail : (A : Type 0) (input : Stream) (answer : Fault) (fault : ItemFault) (s : Site) (arcs : List Arc) (before middle : Option (List ℕ)) (lines start : ℕ) → answer ≡ line_fault fault → IsValid s → AreArcs s arcs
-    → Gives before middle (site_lines s) → ((bytes : List ℕ) → Told input bytes → before ≡ Some bytes) → start ≡ 0 → lines ≡ counted start (line_count (site_lines s)) → line_count (site_lines s) ≤ 34100
+    → GivesFront before middle (site_lines s) → ((bytes : List ℕ) → Told input bytes → before ≡ Some bytes) → start ≡ 0 → lines ≡ line_number_after start (line_count (site_lines s)) → line_count (site_lines s) ≤ 34100
     → IfRefused {A = A} (Err fault) (λ x. RefusedAfter s (reader_at AtJudged) middle lines x) → IfRead {A = A} (Err fault) (Faulted input) → ReadsLayout input (Err answer)
 lines_fail A input answer fault s arcs before middle lines start is valid are gives told none number few h read =
     subst (λ (f : Fault). ReadsLayout input (Err f)) (sym is) (lines_end A input fault s arcs before middle lines start valid are gives told none number few h read)

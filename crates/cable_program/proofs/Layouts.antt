@@ -12,7 +12,7 @@ use Rattle.cable_text.specs.Lines.{ahead}
 use Rattle.site_input.proofs.Forms.{left_at_end}
 use Rattle.proof_text.specs.declared.fault.ItemFault.{ItemFault}
 use Rattle.proof_text.specs.declared.fault.ItemFault.TheVariants.{Refused, Read}
-use Rattle.proof_text.specs.Reading.{counted, ReadsTo, RefusedAfter, IfRefused}
+use Rattle.proof_text.specs.Reading.{line_number_after, ReadsTo, RefusedAfter, IfRefused}
 use Rattle.proof_text.specs.Cables.{ReadsCables}
 use Rattle.proof_text.proofs.Behind.{reads_then, refused_after, refused_behind}
 use Rattle.cable_program.specs.JudgeSteps.{ReadsToEnd}
@@ -53,18 +53,18 @@ layout_read s before middle after count cables first lines ended = λ bytes told
 
 -- a refusal among the cables
 pub cables_refused : (s : Site) (before middle : Option (List ℕ)) (lines later count : ℕ) (x : Refusal)
-    → ReadsTo s (reader_at AtJudged) before middle (LayoutLine (pos count) ∷ []) (at_cables count []) → later ≡ counted lines 1
+    → ReadsTo s (reader_at AtJudged) before middle (LayoutLine (pos count) ∷ []) (at_cables count []) → later ≡ line_number_after lines 1
     → RefusedAfter s (at_cables count []) middle later x → RefusedAfter s (reader_at AtJudged) before lines x
 cables_refused s before middle lines later count x first number h = refused_behind s (reader_at AtJudged) (at_cables count []) before middle (LayoutLine (pos count) ∷ []) lines later x first number h
 
-count_behind : (lines first last count : ℕ) → first ≡ counted lines 1 → (1 ≤ count → last ≡ counted first count) → (count ≡ 0 → last ≡ first) → counted last 1 ≡ counted lines (1 + (1 + count))
+count_behind : (lines first last count : ℕ) → first ≡ line_number_after lines 1 → (1 ≤ count → last ≡ line_number_after first count) → (count ≡ 0 → last ≡ first) → line_number_after last 1 ≡ line_number_after lines (1 + (1 + count))
 count_behind lines first last zero f some none = omega (arith, f, none refl)
 count_behind lines first last (suc k) f some none = omega (arith, f, some (omega arith))
 
 -- a refusal behind the cables
 pub end_refused : (s : Site) (before middle after : Option (List ℕ)) (lines first last count : ℕ) (cables : List Cable) (x : Refusal)
     → ReadsTo s (reader_at AtJudged) before middle (LayoutLine (pos count) ∷ []) (at_cables count []) → ReadsCables s false count 0 middle after cables → length cables ≡ count
-    → first ≡ counted lines 1 → (1 ≤ count → last ≡ counted first count) → (count ≡ 0 → last ≡ first)
+    → first ≡ line_number_after lines 1 → (1 ≤ count → last ≡ line_number_after first count) → (count ≡ 0 → last ≡ first)
     → RefusedAfter s (at_cables 0 cables) after last x → RefusedAfter s (reader_at AtJudged) before lines x
 end_refused s before middle after lines first last count cables x line read size number some none h =
     let many = count_behind lines first last count number some none in
@@ -78,7 +78,7 @@ none_left pending left old h e = left_at_end pending left (subst IsAtEnd (sym e)
 
 -- the same of the answer of the cables, and of what stands behind them
 pub cables_fail : (A : Type 0) (fault : ItemFault) (s : Site) (before middle : Option (List ℕ)) (lines later count : ℕ)
-    → ReadsTo s (reader_at AtJudged) before middle (LayoutLine (pos count) ∷ []) (at_cables count []) → later ≡ counted lines 1
+    → ReadsTo s (reader_at AtJudged) before middle (LayoutLine (pos count) ∷ []) (at_cables count []) → later ≡ line_number_after lines 1
     → IfRefused {A = A} (Err fault) (λ x. (r : Reader) → r.phase ≡ AtAnyCables count → r.cables ≡ [] → RefusedAfter s r middle later x)
     → IfRefused {A = A} (Err fault) (λ x. RefusedAfter s (reader_at AtJudged) before lines x)
 cables_fail A (Refused x) s before middle lines later count first number h = cables_refused s before middle lines later count x first number (h (at_cables count []) refl refl)
@@ -86,7 +86,7 @@ cables_fail A Read s before middle lines later count first number h = h
 
 pub end_fails : {A : Type 0} → (result : Result A ItemFault) (s : Site) (before middle after : Option (List ℕ)) (lines first last count : ℕ) (cables : List Cable)
     → ReadsTo s (reader_at AtJudged) before middle (LayoutLine (pos count) ∷ []) (at_cables count []) → ReadsCables s false count 0 middle after cables → length cables ≡ count
-    → first ≡ counted lines 1 → (1 ≤ count → last ≡ counted first count) → (count ≡ 0 → last ≡ first)
+    → first ≡ line_number_after lines 1 → (1 ≤ count → last ≡ line_number_after first count) → (count ≡ 0 → last ≡ first)
     → IfRefused result (λ x. (t : Site) (r : Reader) → IsTrue (may_end r.phase) → RefusedAfter t r after last x)
     → IfRefused result (λ x. RefusedAfter s (reader_at AtJudged) before lines x)
 end_fails (Ok a) s before middle after lines first last count cables line read size number some none h = h

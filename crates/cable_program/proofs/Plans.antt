@@ -16,7 +16,7 @@ use Rattle.cable_definitions.specs.declared.cable.Rule.TheVariants.{Range}
 use Rattle.cable_definitions.specs.Layout.{IsLegal, cost}
 use Rattle.cable_definitions.specs.Part.{IsGrown}
 use Rattle.cable_definitions.specs.Budget.{IsNearest}
-use Rattle.cable_definitions.specs.Tree.{Node, Item, Kept, is_open_leaf, IsLeastBound, IsAccepted, LayoutAgrees, nothing_kept}
+use Rattle.cable_definitions.specs.Tree.{Node, Item, ProofState, is_open_leaf, IsLeastBound, IsAccepted, LayoutAgrees, empty_state}
 use Rattle.cable_definitions.specs.Text.{line, site_lines, item_lines, cable_line, claim_line, document_text}
 use Rattle.cable_definitions.specs.Document.{IsClaimInRange}
 use Rattle.cable_definitions.specs.Plan.{IsPlanned}
@@ -27,7 +27,7 @@ use Rattle.document_laws.proofs.Counting.{cables-most}
 use Rattle.proof_laws.proofs.Lists.{any_at}
 use Rattle.proof_laws.proofs.FullLemma.{within-turbine}
 use Rattle.proof_laws.proofs.Sound.{sound-accepted, says-sound}
-use Rattle.proof_lines.specs.Written.{IsCableOf, IsClaimOf, layout_text}
+use Rattle.proof_lines.specs.Written.{EndsAtPoints, NamesPoint, layout_lines}
 use Rattle.tree_search.specs.Found.{IsOutcome, FindsPlan, WritesPart}
 use Rattle.cable_program.specs.Ends.{Stream, IsRead, IsAboveNearest, IsGoodPlan, PrintsPlan, PrintsPart}
 
@@ -38,7 +38,7 @@ head_text s n = site_lines s ++ line (codes "budget" ∷ decimal n ∷ [])
 
 -- what stands behind them
 abbrev pub tail_text : Site → List Cable → Claim → List ℕ
-tail_text s cables claim = layout_text s cables ++ (claim_line s claim ++ line (codes "end" ∷ codes "document" ∷ []))
+tail_text s cables claim = layout_lines s cables ++ (claim_line s claim ++ line (codes "end" ∷ codes "document" ∷ []))
 
 joined : (h i l c v e : List ℕ) → ((((h ++ i) ++ l) ++ c) ++ v) ++ e ≡ (h ++ i) ++ ((l ++ c) ++ (v ++ e))
 joined h i l c v e = append_assoc (((h ++ i) ++ l) ++ c) v e ∙ (ap (λ x. x ++ (v ++ e)) (append_assoc (h ++ i) l c) ∙ append_assoc (h ++ i) (l ++ c) (v ++ e))
@@ -52,39 +52,39 @@ document_parts s n items cables claim =
 
 -- ---- what the writers ask for
 -- the cables of a legal layout have their ends among the points
-cables_of_legal : (s : Site) (cables : List Cable) → IsLegal s cables → All (IsCableOf s) cables
+cables_of_legal : (s : Site) (cables : List Cable) → IsLegal s cables → All (EndsAtPoints s) cables
 cables_of_legal s cables legal k d h =
     let at = slice_get-get_or cables k d h in
     record { from = (legal.range k).from (get_or cables k d) at; to = (legal.range k).to (get_or cables k d) at }
 
 -- so do those of a grown part
-cables_of_grown : (s : Site) (cables : List Cable) → IsGrown s cables → All (IsCableOf s) cables
+cables_of_grown : (s : Site) (cables : List Cable) → IsGrown s cables → All (EndsAtPoints s) cables
 cables_of_grown s cables grown k d h =
     let at = slice_get-get_or cables k d h in
     let range = grown Range k 0 (λ e. cc) in
     record { from = range.from (get_or cables k d) at; to = range.to (get_or cables k d) at }
 
-no_cables : (s : Site) (cables : List Cable) → cables ≡ [] → All (IsCableOf s) cables
-no_cables s cables e = let P : List Cable → Type 0 = λ xs. All (IsCableOf s) xs in subst P (sym e) (λ k d h. absurd (omega (arith, h)))
+no_cables : (s : Site) (cables : List Cable) → cables ≡ [] → All (EndsAtPoints s) cables
+no_cables s cables e = let P : List Cable → Type 0 = λ xs. All (EndsAtPoints s) xs in subst P (sym e) (λ k d h. absurd (omega (arith, h)))
 
-cables_agree : (s : Site) (cables : List Cable) (claim : Claim) → LayoutAgrees s cables claim → All (IsCableOf s) cables
+cables_agree : (s : Site) (cables : List Cable) (claim : Claim) → LayoutAgrees s cables claim → All (EndsAtPoints s) cables
 cables_agree s cables (Optimal cost) a = cables_of_legal s cables a.0
 cables_agree s cables (Gap cost bound) a = cables_of_legal s cables a.0
 cables_agree s cables (Partial bound stuck) a = cables_of_grown s cables a.grown
 cables_agree s cables Infeasible a = no_cables s cables a
 
 -- the cables that were found have their ends among the points
-pub cables_found : (s : Site) (arcs : List Arc) (n : ℕ) (before after : Option (List ℕ)) (cables : List Cable) (claim : Claim) → FindsPlan s arcs n before after cables claim → All (IsCableOf s) cables
+pub cables_found : (s : Site) (arcs : List Arc) (n : ℕ) (before after : Option (List ℕ)) (cables : List Cable) (claim : Claim) → FindsPlan s arcs n before after cables claim → All (EndsAtPoints s) cables
 cables_found s arcs n before after cables claim found = cables_agree s cables claim found.outcome.agrees.0
 
-claim_agrees : (s : Site) (cables : List Cable) (claim : Claim) → LayoutAgrees s cables claim → IsClaimOf s claim
+claim_agrees : (s : Site) (cables : List Cable) (claim : Claim) → LayoutAgrees s cables claim → NamesPoint s claim
 claim_agrees s cables (Optimal cost) a = tt
 claim_agrees s cables (Gap cost bound) a = tt
 claim_agrees s cables (Partial bound stuck) a = within-turbine s stuck a.turbine_is
 claim_agrees s cables Infeasible a = tt
 
 -- a turbine that the claim names is a point
-pub claim_found : (s : Site) (arcs : List Arc) (n : ℕ) (before after : Option (List ℕ)) (cables : List Cable) (claim : Claim) → FindsPlan s arcs n before after cables claim → IsClaimOf s claim
+pub claim_found : (s : Site) (arcs : List Arc) (n : ℕ) (before after : Option (List ℕ)) (cables : List Cable) (claim : Claim) → FindsPlan s arcs n before after cables claim → NamesPoint s claim
 claim_found s arcs n before after cables claim found = claim_agrees s cables claim found.outcome.agrees.0
 
 -- ---- costs
@@ -98,7 +98,7 @@ cost_in_range s cables valid order legal =
     let points = valid.points_count in
     omega (arith, most, each, points)
 
-claim_in_range : (s : Site) (arcs : List Arc) (n : ℕ) (kept : Kept) (cables : List Cable) (claim : Claim) → IsValid s → IsOutcome s arcs n kept cables claim → IsClaimInRange claim
+claim_in_range : (s : Site) (arcs : List Arc) (n : ℕ) (kept : ProofState) (cables : List Cable) (claim : Claim) → IsValid s → IsOutcome s arcs n kept cables claim → IsClaimInRange claim
 claim_in_range s arcs n kept cables (Optimal best) valid o = subst (λ (c : ℕ). c < 2 ^ 63) o.agrees.0.1 (cost_in_range s cables valid o.in_order o.agrees.0.0)
 claim_in_range s arcs n kept cables (Gap best bound) valid o =
     let small = cost_in_range s cables valid o.in_order o.agrees.0.0 in
@@ -110,7 +110,7 @@ claim_in_range s arcs n kept cables Infeasible valid o = tt
 
 -- ---- what was printed
 -- a first part of the text of a plan that was begun
-begun : (input out : Stream) (s : Site) (n : ℕ) (arcs : List Arc) (items : List Item) (kept : Kept) (cables : List Cable) (claim : Claim) → IsRead input s → AreArcs s arcs
+begun : (input out : Stream) (s : Site) (n : ℕ) (arcs : List Arc) (items : List Item) (kept : ProofState) (cables : List Cable) (claim : Claim) → IsRead input s → AreArcs s arcs
     → IsAccepted s arcs n items kept → AppendsPrefix out.before out.after ((head_text s n ++ concat (map item_lines items)) ++ tail_text s cables claim) → PrintsPart n input out
 begun input out s n arcs items kept cables claim read are accepted part =
     inr (
@@ -124,7 +124,7 @@ begun input out s n arcs items kept cables claim read are accepted part =
 -- a first part of what stands before the items
 pub head_part : (input out : Stream) (s : Site) (n : ℕ) (arcs : List Arc) → IsRead input s → AreArcs s arcs → AppendsPrefix out.before out.after (head_text s n) → PrintsPart n input out
 head_part input out s n arcs read are part =
-    begun input out s n arcs [] nothing_kept [] Infeasible read are refl
+    begun input out s n arcs [] empty_state [] Infeasible read are refl
     (AppendsPrefix-front out.before out.after (head_text s n ++ []) (tail_text s [] Infeasible) (AppendsPrefix-front out.before out.after (head_text s n) [] part))
 
 -- what stands before the items, and a first part of these

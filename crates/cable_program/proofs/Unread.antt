@@ -8,7 +8,7 @@ use Rattle.cable_definitions.specs.declared.command.Command.TheVariants.{Plan, C
 use Rattle.cable_text.specs.declared.number.NumberFault.{NumberFault}
 use Rattle.cable_text.specs.declared.number.NumberFault.TheVariants.{NotDecimal, Over}
 use Rattle.cable_definitions.specs.Numeral.{spelling}
-use Rattle.cable_text.specs.Number.{IsOutside}
+use Rattle.cable_text.specs.Number.{LiesOutside}
 use Rattle.cable_text.proofs.Numerals.{numeral-decimal}
 use Rattle.cable_text.proofs.Reading.{spelling-same}
 use Rattle.cable_program.specs.Words.{AsksFor}
@@ -17,7 +17,7 @@ use Rattle.cable_program.specs.Words.{AsksFor}
 abbrev pub IsUnread : List ℕ → NumberFault → Type 0
 IsUnread word e =
     (e ≡ NotDecimal → (z : ℤ) → word ≢ spelling z)
-    × (e ≡ Over → (z : ℤ) × (word ≡ spelling z) × IsOutside (pos 1) (pos 50000) z)
+    × (e ≡ Over → (z : ℤ) × (word ≡ spelling z) × LiesOutside (pos 1) (pos 50000) z)
 
 second_of : (a b c d : List ℕ) → a ∷ b ∷ [] ≡ c ∷ d ∷ [] → b ≡ d
 second_of a b c d e = cc
@@ -25,7 +25,7 @@ second_of a b c d e = cc
 spelled : (n : ℕ) → n ≤ 50000 → decimal n ≡ spelling (pos n)
 spelled n h = sym (numeral-decimal n (omega arith))
 
-not_outside : (n : ℕ) → 1 ≤ n → n ≤ 50000 → IsOutside (pos 1) (pos 50000) (pos n) → ⊥
+not_outside : (n : ℕ) → 1 ≤ n → n ≤ 50000 → LiesOutside (pos 1) (pos 50000) (pos n) → ⊥
 not_outside n h k o = ⊎_elim (λ b. omega (arith, ints, b)) (λ a. omega (arith, ints, a)) o
 
 no_number : (word : List ℕ) (n : ℕ) → 1 ≤ n → n ≤ 50000 → word ≡ decimal n → (e : NumberFault) → IsUnread word e → ⊥

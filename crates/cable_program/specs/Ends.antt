@@ -14,8 +14,8 @@ use Rattle.cable_definitions.specs.Layout.{IsLegal, IsFirstBroken, cost}
 use Rattle.cable_definitions.specs.Tree.{Says}
 use Rattle.cable_definitions.specs.Text.{site_lines}
 use Rattle.cable_definitions.specs.Items.{IsLineFault}
-use Rattle.cable_definitions.specs.Document.{Yes}
-use Rattle.cable_definitions.specs.Refusal.{IsRefused, IsJudged, IsJudgeRefused}
+use Rattle.cable_definitions.specs.Document.{IsAcceptedDocument}
+use Rattle.cable_definitions.specs.Refusal.{IsRefused, IsSiteWithCables, IsJudgeRefused}
 use Rattle.cable_definitions.specs.Report.{report_text}
 use Rattle.cable_definitions.specs.Plan.{IsPlanned, IsPlanBegun}
 use Rattle.cable_definitions.specs.Answers.{usage_note, site_note, document_note, read_fault_note, write_fault_note, memory_note, yes_line, legal_line, broken_line}
@@ -139,7 +139,7 @@ PlanEnds n input out note ending = ⊥
 -- was read to its end. What the claim says of all legal layouts is true.
 pub record IsChecked (input : Stream) (s : Site) (claim : Claim) : Type 0 where
   pub bytes : List ℕ
-  pub document : Yes bytes s claim
+  pub document : IsAcceptedDocument bytes s claim
   pub read : (told : List ℕ) → Told input told → told ≡ bytes
   pub whole : IsAtEnd input.after
   pub says : Says s claim
@@ -180,7 +180,7 @@ SiteEnds input out note ending = ⊥
 -- What was read is this valid site with these cables; where the input tells its bytes they are these, and the input was read to its end.
 pub record IsLaidOut (input : Stream) (s : Site) (cables : List Cable) : Type 0 where
   pub valid : IsValid s
-  pub read : (bytes : List ℕ) → Told input bytes → IsJudged bytes s cables
+  pub read : (bytes : List ℕ) → Told input bytes → IsSiteWithCables bytes s cables
   pub whole : IsAtEnd input.after
 
 -- what is answered of the cables: that they are a legal layout, with its cost, or the first broken rule with its two points by name

@@ -5,7 +5,7 @@ use Rattle.cable_definitions.specs.declared.cable.Arc.{Arc}
 use Rattle.cable_definitions.specs.Site.{Site}
 use Rattle.cable_definitions.specs.Items.{IsLineFault}
 use Rattle.cable_definitions.specs.Refusal.{DocLine, Reader, reader_at, AtJudged, may_end, ReadsLines, IsJudgeRefused}
-use Rattle.proof_text.specs.Cables.{IsListed}
+use Rattle.proof_text.specs.Cables.{HasNumbersOf}
 use Rattle.cable_program.specs.declared.fault.Fault.{Fault}
 use Rattle.cable_program.specs.declared.fault.Fault.TheVariants.{OfSite, OfDocument, Read, Write, Memory}
 use Rattle.cable_program.specs.Ends.{Stream, Faulted, Untouched, Told, Got, GotPart, IsLaidOut, IsJudgement}
@@ -19,7 +19,7 @@ ReadsToEnd s before cables =
 
 -- what reading a layout that is judged gives: its site and its cables
 abbrev pub ReadsLayout : Stream → Result (Site × List Cable) Fault → Type 0
-ReadsLayout input (Ok (site, cables)) = IsLaidOut input site cables × All (IsListed site) cables
+ReadsLayout input (Ok (site, cables)) = IsLaidOut input site cables × All (HasNumbersOf site) cables
 ReadsLayout input (Err (OfSite code place)) = (bytes : List ℕ) → Told input bytes → (broken_line : Bool) × IsLineFault bytes 1 code place broken_line
 ReadsLayout input (Err (OfDocument refusal)) = (bytes : List ℕ) → Told input bytes → IsJudgeRefused bytes refusal.line refusal.cause
 ReadsLayout input (Err Read) = Faulted input

@@ -2,7 +2,7 @@ ghost use Rattle.std.specs.Prelude.{◌≡◌, ◌<◌, ℕ, List, All, length};
 ghost use Rattle.cable_definitions.specs.Answers.{legal_line, broken_line, rule_word};
 ghost use Rattle.cable_text.specs.Stream.{Writes};
 ghost use Rattle.cable_program.specs.Ends.{stream, IsJudgement, JudgeEnds};
-ghost use Rattle.proof_text.specs.Cables.{IsListed};
+ghost use Rattle.proof_text.specs.Cables.{HasNumbersOf};
 ghost use Rattle.layout_meaning.specs.Verdict.{IsVerdict};
 ghost use Rattle.cable_program.specs.JudgeSteps.{JudgeGives};
 
@@ -61,7 +61,7 @@ fn write_verdict<O: Sink>(
     verdict: Verdict,
     out: &mut O,
 ) -> Result<(), Failed>
-    requires listed { All (IsListed site.now) layout.now }
+    requires listed { All (HasNumbersOf site.now) layout.now }
     requires verdict { IsVerdict site.now layout.now verdict }
     ensures { (text : List ℕ) × IsJudgement site.now layout.now text
         × Writes result (O.taken out.old) (O.taken out.new) (O.faults out.old) (O.faults out.new) text }

@@ -3,7 +3,7 @@ ghost use Rattle.cable_definitions.specs.Refusal.{reader_at, AtJudged};
 ghost use Rattle.cable_text.specs.Stream.{Rose, IsAtEnd};
 ghost use Rattle.cable_text.specs.Lines.{ahead};
 ghost use Rattle.proof_text.specs.Reading.{RefusedAfter, IfRefused, IfRead};
-ghost use Rattle.proof_text.specs.Cables.{IsListed};
+ghost use Rattle.proof_text.specs.Cables.{HasNumbersOf};
 ghost use Rattle.cable_program.specs.Ends.{stream};
 ghost use Rattle.cable_program.specs.JudgeSteps.{ReadsLayout, ReadsToEnd};
 
@@ -56,7 +56,7 @@ fn read_cables<S: Source>(
     requires kept { lines.old.kept ≡ None }
     requires empty { layout.old ≡ [] }
     ensures reads { OnOk result (ReadsToEnd site.now (ahead lines.old.pending (S.left input.old)) layout.new) }
-    ensures listed { OnOk result (All (IsListed site.now) layout.new) }
+    ensures listed { OnOk result (All (HasNumbersOf site.now) layout.new) }
     ensures whole { OnOk result (IsAtEnd (S.left input.new)) }
     ensures refused { IfRefused result (λ refusal. RefusedAfter site.now (reader_at AtJudged) (ahead lines.old.pending (S.left input.old)) lines.old.lines refusal) }
     ensures read { IfRead result (Rose (S.faults input.old) (S.faults input.new)) }

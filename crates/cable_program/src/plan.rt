@@ -2,7 +2,7 @@ ghost use Rattle.std.specs.Prelude.{◌≡◌, ◌≤◌, [], ◌∷◌, ◌++�
 ghost use Rattle.std.specs.Fmt.{decimal};
 ghost use Rattle.cable_definitions.specs.Text.{line, site_lines, claim_line};
 ghost use Rattle.cable_text.specs.Stream.{Writes};
-ghost use Rattle.proof_lines.specs.Written.{IsCableOf, IsClaimOf, layout_text};
+ghost use Rattle.proof_lines.specs.Written.{EndsAtPoints, NamesPoint, layout_lines};
 ghost use Rattle.cable_program.specs.Ends.{stream, PlanEnds, EndsWith};
 ghost use Rattle.cable_program.specs.PlanSteps.{PlanGives};
 
@@ -89,10 +89,10 @@ fn write_head<O: Sink>(site: &Site, budget: u32, out: &mut O) -> Result<(), Fail
 
 /// Appends what stands behind the items: the layout, the claim and the last line.
 fn write_tail<O: Sink>(site: &Site, plan: &Plan, out: &mut O) -> Result<(), Failed>
-    requires cables { All (IsCableOf site.now) plan.now.layout }
-    requires claim { IsClaimOf site.now plan.now.claim }
+    requires cables { All (EndsAtPoints site.now) plan.now.layout }
+    requires claim { NamesPoint site.now plan.now.claim }
     ensures { Writes result (O.taken out.old) (O.taken out.new) (O.faults out.old) (O.faults out.new)
-        (layout_text site.now plan.now.layout ++ (claim_line site.now plan.now.claim ++ line (codes "end" ∷ codes "document" ∷ []))) }
+        (layout_lines site.now plan.now.layout ++ (claim_line site.now plan.now.claim ++ line (codes "end" ∷ codes "document" ∷ []))) }
 {
     write_layout(site, &plan.layout, out)?;
     write_claim(site, plan.claim, out)

@@ -5,8 +5,8 @@ ghost use Rattle.cable_definitions.specs.declared.command.Command.{Command as An
 ghost use Rattle.cable_definitions.specs.Site.{Site};
 ghost use Rattle.cable_definitions.specs.Tree.{Says};
 ghost use Rattle.cable_definitions.specs.Text.{site_lines};
-ghost use Rattle.cable_definitions.specs.Document.{Yes};
-ghost use Rattle.cable_definitions.specs.Refusal.{IsJudged};
+ghost use Rattle.cable_definitions.specs.Document.{IsAcceptedDocument};
+ghost use Rattle.cable_definitions.specs.Refusal.{IsSiteWithCables};
 ghost use Rattle.cable_definitions.specs.Answers.{yes_line};
 ghost use Rattle.site_json.specs.Bytes.{IsSiteOf, IsFrontSite};
 ghost use Rattle.cable_text.specs.Stream.{IsAtEnd, Appends};
@@ -65,7 +65,7 @@ pub fn run<S: Source, O: Sink, E: Sink>(
 
     // `check` says yes to each document that is accepted, and then its claim is true.
     ensures yes { (bytes : List ℕ) (s : Site) (claim : Claim) → AsksFor (texts words.now) AnyCommand.Check → S.left input.old ≡ Some bytes
-        → Yes bytes s claim
+        → IsAcceptedDocument bytes s claim
         → RanWell (stream (S.left input.old) (S.left input.new) (S.faults input.old) (S.faults input.new))
         (stream (O.taken out.old) (O.taken out.new) (O.faults out.old) (O.faults out.new))
         (stream (E.taken note.old) (E.taken note.new) (E.faults note.old) (E.faults note.new)) result
@@ -81,7 +81,7 @@ pub fn run<S: Source, O: Sink, E: Sink>(
 
     // `judge` answers on each layout.
     ensures judgement { (bytes : List ℕ) (s : Site) (cables : List Cable) → AsksFor (texts words.now) AnyCommand.Judge → S.left input.old ≡ Some bytes
-        → IsJudged bytes s cables
+        → IsSiteWithCables bytes s cables
         → RanWell (stream (S.left input.old) (S.left input.new) (S.faults input.old) (S.faults input.new))
         (stream (O.taken out.old) (O.taken out.new) (O.faults out.old) (O.faults out.new))
         (stream (E.taken note.old) (E.taken note.new) (E.faults note.old) (E.faults note.new)) result
@@ -89,7 +89,7 @@ pub fn run<S: Source, O: Sink, E: Sink>(
 
     // `report` writes the report of each document that is accepted.
     ensures report { (bytes : List ℕ) (s : Site) (claim : Claim) → AsksFor (texts words.now) AnyCommand.Report → S.left input.old ≡ Some bytes
-        → Yes bytes s claim
+        → IsAcceptedDocument bytes s claim
         → RanWell (stream (S.left input.old) (S.left input.new) (S.faults input.old) (S.faults input.new))
         (stream (O.taken out.old) (O.taken out.new) (O.faults out.old) (O.faults out.new))
         (stream (E.taken note.old) (E.taken note.new) (E.faults note.old) (E.faults note.new)) result

@@ -16,7 +16,7 @@ use Rattle.cable_definitions.specs.declared.row.RowKind.{RowKind}
 use Rattle.cable_definitions.specs.declared.row.RowKind.TheVariants.{One}
 use Rattle.cable_definitions.specs.Row.{Row, is_member}
 use Rattle.cable_rows.specs.declared.pool.KeptRow.{KeptRow}
-use Rattle.cable_rows.specs.Pool.{members_of, row_of, rows_of, IsKeptRow, IsPool}
+use Rattle.cable_rows.specs.Pool.{members_of, row_of, pool_rows, IsKeptRow, IsPool}
 
 -- a range of a longer list
 range_before : (xs ys : List ℕ) (a b : ℕ) → a ≤ b → b ≤ length xs → slice_range (xs ++ ys) a b ≡ slice_range xs a b
@@ -35,7 +35,7 @@ same_members : (members more : List ℕ) (kept : KeptRow) → IsKeptRow members 
 same_members members more kept h = range_before members more kept.start kept.end h.start h.end
 
 -- kept rows are the same rows in a longer list
-same_rows : (members more : List ℕ) (rows : List KeptRow) → All (IsKeptRow members) rows → rows_of (members ++ more) rows ≡ rows_of members rows
+same_rows : (members more : List ℕ) (rows : List KeptRow) → All (IsKeptRow members) rows → pool_rows (members ++ more) rows ≡ pool_rows members rows
 same_rows members more [] h = refl
 same_rows members more (kept ∷ rows) h =
     let head : row_of (members ++ more) kept ≡ row_of members kept = ap (λ (ms : List ℕ). record { kind = kept.kind; members = ms }) (same_members members more kept (h 0 kept (omega arith))) in
@@ -86,12 +86,12 @@ row_same k l xs ys e f = cc
 
 -- the rows of a pool with one more
 pub rows_listed : (members more : List ℕ) (rows : List KeptRow) (kind : RowKind) (kept : KeptRow) → All (IsKeptRow members) rows → IsNext members more kind kept
-    → rows_of (members ++ more) (rows ++ kept ∷ []) ≡ rows_of members rows ++ record { kind = kind; members = more } ∷ []
+    → pool_rows (members ++ more) (rows ++ kept ∷ []) ≡ pool_rows members rows ++ record { kind = kind; members = more } ∷ []
 rows_listed members more rows kind kept h next =
     let e : members_of (members ++ more) kept ≡ more = range_past members more kept.start kept.end next.start next.end in
     let last : row_of (members ++ more) kept ≡ row_with kind more = row_same kept.kind kind (members_of (members ++ more) kept) more next.kind_is e in
     map-append (row_of (members ++ more)) rows (kept ∷ [])
-    ∙ ap (λ (r : Row). rows_of (members ++ more) rows ++ r ∷ []) last
+    ∙ ap (λ (r : Row). pool_rows (members ++ more) rows ++ r ∷ []) last
     ∙ ap (λ (rs : List Row). rs ++ row_with kind more ∷ []) (same_rows members more rows h)
 
 -- a pool with one more row
@@ -103,7 +103,7 @@ pool_listed rows members a b c d more kind kept h next few fit le_rows le_member
   members_count = omega (arith, length-append members more);
   kept = All-push (IsKeptRow (members ++ more)) rows kept (λ k x l. still_kept members more (get_or rows k x) (h.kept k x l)) (next_kept members more kind kept next);
   total = ap (sum_by (λ (r : Row). length r.members)) (rows_listed members more rows kind kept h.kept next)
-      ∙ sum_by_push (λ (r : Row). length r.members) (rows_of members rows) (record { kind = kind; members = more })
+      ∙ sum_by_push (λ (r : Row). length r.members) (pool_rows members rows) (record { kind = kind; members = more })
       ∙ ap (λ (n : ℕ). n + length more) h.total
       ∙ sym (length-append members more);
   rows_fit = omega (arith, h.rows_fit);
@@ -111,7 +111,7 @@ pool_listed rows members a b c d more kind kept h next few fit le_rows le_member
 }
 
 -- the row that is kept at a place
-pub row_read : (members : List ℕ) (rows : List KeptRow) (i : ℕ) (kept : KeptRow) (r : Row) → kept ≡ get_or rows i kept → slice_get (rows_of members rows) i ≡ Some r → row_of members kept ≡ r
+pub row_read : (members : List ℕ) (rows : List KeptRow) (i : ℕ) (kept : KeptRow) (r : Row) → kept ≡ get_or rows i kept → slice_get (pool_rows members rows) i ≡ Some r → row_of members kept ≡ r
 row_read members rows i kept r e f =
     let source = slice_get-map_source (row_of members) rows i r f in
     let same = get_or_from_slice_get rows i source.0 kept source.1 in
@@ -119,7 +119,7 @@ row_read members rows i kept r e f =
 
 -- a point past the table is no member
 pub past_table : (members : List ℕ) (rows : List KeptRow) (i p : ℕ) (kept : KeptRow) (r : Row) → All (IsKeptRow members) rows → kept ≡ get_or rows i kept
-    → slice_get (rows_of members rows) i ≡ Some r → r.kind ≢ One → 256 ≤ p → false ≡ is_member r.members p
+    → slice_get (pool_rows members rows) i ≡ Some r → r.kind ≢ One → 256 ≤ p → false ≡ is_member r.members p
 past_table members rows i p kept r h e f n past =
     let source = slice_get-map_source (row_of members) rows i r f in
     let l = slice_get_within rows i source.0 source.1 in
@@ -166,5 +166,5 @@ pool_after rows new_rows members new_members a b c d more kind kept e f h next f
 -- and their rows
 pub rows_after : (rows new_rows : List KeptRow) (members new_members : List ℕ) (more : List ℕ) (kind : RowKind) (kept : KeptRow)
     → new_rows ≡ rows ++ kept ∷ [] → new_members ≡ members ++ more → All (IsKeptRow members) rows → IsNext members more kind kept
-    → rows_of new_members new_rows ≡ rows_of members rows ++ row_with kind more ∷ []
+    → pool_rows new_members new_rows ≡ pool_rows members rows ++ row_with kind more ∷ []
 rows_after rows new_rows members new_members more kind kept e f h next = rw (e, f) (rows_listed members more rows kind kept h next)

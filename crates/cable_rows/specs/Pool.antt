@@ -13,8 +13,8 @@ abbrev pub row_of : List ℕ → KeptRow → Row
 row_of members kept = record { kind = kept.kind; members = members_of members kept }
 
 -- the rows of a pool
-abbrev pub rows_of : List ℕ → List KeptRow → List Row
-rows_of members rows = map (row_of members) rows
+abbrev pub pool_rows : List ℕ → List KeptRow → List Row
+pool_rows members rows = map (row_of members) rows
 
 -- a kept row has its at most 256 members in the pool, ascending; a row on points has a table that tells them
 pub record IsKeptRow (members : List ℕ) (kept : KeptRow) : Type 0 where
@@ -30,6 +30,6 @@ pub record IsPool (rows : List KeptRow) (members : List ℕ) (rows_room members_
   pub rows_count : length rows ≤ 16384
   pub members_count : length members ≤ 1048576
   pub kept : All (IsKeptRow members) rows
-  pub total : sum_by (λ r. length r.members) (rows_of members rows) ≡ length members
+  pub total : sum_by (λ r. length r.members) (pool_rows members rows) ≡ length members
   pub rows_fit : 16384 ≤ rows_room
   pub members_fit : 1048576 ≤ members_room

@@ -47,9 +47,9 @@ impl Model for RowPool {
 
     ghost Value = { List Row };
 
-    ghost use Rattle.cable_rows.specs.Pool.{rows_of, IsPool};
+    ghost use Rattle.cable_rows.specs.Pool.{pool_rows, IsPool};
 
-    ghost view = { λ p. rows_of p.members.items p.rows.items };
+    ghost view = { λ p. pool_rows p.members.items p.rows.items };
 
     ghost invariant = { λ p. IsPool p.rows.items p.members.items (vec_capacity p.rows) (vec_capacity p.members) };
 }

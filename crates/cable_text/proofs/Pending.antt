@@ -5,12 +5,12 @@ use Rattle.std.proofs.lemmas.List.{drop-take, drop-drop, take_all, take_at, take
 use Rattle.std.proofs.lemmas.List.Elements.{All-more, All-append}
 use Rattle.std.proofs.lemmas.Bool.Decides.{nat_tests}
 use Rattle.cable_definitions.specs.Text.{HasNoNewline, LongLine}
-use Rattle.cable_text.specs.Stream.{Gives}
-use Rattle.cable_text.specs.Lines.{BufferState, IsCut, ahead, Finds}
+use Rattle.cable_text.specs.Stream.{GivesFront}
+use Rattle.cable_text.specs.Lines.{BufferState, CutsLine, ahead, StandsNext}
 use borrow.Rule.Slice.PartMut.{put_mid}
 
 -- bytes that were given are pending
-pub ahead-gives : (l m : Option (List ℕ)) (front more : List ℕ) → Gives l m more → ahead (front ++ more) m ≡ ahead front l
+pub ahead-gives : (l m : Option (List ℕ)) (front more : List ℕ) → GivesFront l m more → ahead (front ++ more) m ≡ ahead front l
 ahead-gives None m front more e = ap (ahead (front ++ more)) e
 ahead-gives (Some bytes) m front more (rest, e, f) =
     ap (ahead (front ++ more)) f ∙ ap Some (append_assoc front more rest ∙ ap (λ xs. front ++ xs) (sym e))
@@ -23,7 +23,7 @@ take_behind used_bytes piece past used n size h =
     ap (take (used + n)) split ∙ take_at (used_bytes ++ take n piece) (drop n piece ++ past) (used + n) (omega (arith, size, length-append used_bytes (take n piece), length-take-le n piece h))
 
 -- bytes that were pulled behind those that are used are pending
-pub ahead-pulled : (storage piece : List ℕ) (used k n : ℕ) (l m : Option (List ℕ)) → used ≤ length storage → n ≤ length piece → Gives l m (take n piece) → ahead (take (used + n) (put_mid used k storage piece)) m ≡ ahead (take used storage) l
+pub ahead-pulled : (storage piece : List ℕ) (used k n : ℕ) (l m : Option (List ℕ)) → used ≤ length storage → n ≤ length piece → GivesFront l m (take n piece) → ahead (take (used + n) (put_mid used k storage piece)) m ≡ ahead (take used storage) l
 ahead-pulled storage piece used k n l m h small given =
     ap (λ xs. ahead xs m) (take_behind (take used storage) piece _ used n (length-take-le used storage h) small) ∙ ahead-gives l m (take used storage) (take n piece) given
 
@@ -44,15 +44,15 @@ pub HasNoNewline-all : (bytes : List ℕ) (i : ℕ) → length bytes ≤ i → H
 HasNoNewline-all bytes i past h = let e : take i bytes ≡ bytes = take_all i bytes past in subst HasNoNewline e h
 
 -- the same of what a pull answers
-pub ahead-pull : {E : Type 0} (r : Result ℕ E) (storage piece : List ℕ) (used k size : ℕ) (l m : Option (List ℕ)) → used ≤ length storage → size ≡ length piece → IfOk r (λ n. n ≤ size) → IfOk r (λ n. Gives l m (take n piece)) → IfOk r (λ n. ahead (take (used + n) (put_mid used k storage piece)) m ≡ ahead (take used storage) l)
+pub ahead-pull : {E : Type 0} (r : Result ℕ E) (storage piece : List ℕ) (used k size : ℕ) (l m : Option (List ℕ)) → used ≤ length storage → size ≡ length piece → IfOk r (λ n. n ≤ size) → IfOk r (λ n. GivesFront l m (take n piece)) → IfOk r (λ n. ahead (take (used + n) (put_mid used k storage piece)) m ≡ ahead (take used storage) l)
 ahead-pull (Ok n) storage piece used k size l m h e small given = ahead-pulled storage piece used k n l m h (omega (arith, small)) given
 ahead-pull (Err f) storage piece used k size l m h e small given = tt
 
 -- as many bytes as fit are pending, without a newline
-pub Finds-long : (pending : List ℕ) (l old : Option (List ℕ)) → ahead pending l ≡ old → length pending ≡ 4097 → HasNoNewline pending → Finds old LongLine (ahead pending l)
-Finds-long pending None old e size plain = let P : Option (List ℕ) → Type 0 = λ o. Finds o LongLine None in subst P e refl
+pub Finds-long : (pending : List ℕ) (l old : Option (List ℕ)) → ahead pending l ≡ old → length pending ≡ 4097 → HasNoNewline pending → StandsNext old LongLine (ahead pending l)
+Finds-long pending None old e size plain = let P : Option (List ℕ) → Type 0 = λ o. StandsNext o LongLine None in subst P e refl
 Finds-long pending (Some left) old e size plain =
-    let P : Option (List ℕ) → Type 0 = λ o. Finds o LongLine (Some (pending ++ left)) in
+    let P : Option (List ℕ) → Type 0 = λ o. StandsNext o LongLine (Some (pending ++ left)) in
     let front : take 4097 (pending ++ left) ≡ pending = take_at pending left 4097 size in
     subst P e (pending ++ left, (omega (arith, length-append pending left), rw front plain), refl)
 
@@ -67,7 +67,7 @@ HasNoNewline-whole bytes i front back =
     subst HasNoNewline (take-append-drop i bytes) (All-append (λ b. not (b == 10) ≡ true) (take i bytes) (drop i bytes) front back)
 
 -- a newline behind a text splits the pending bytes
-pub IsCut-at : (pending : List ℕ) (new : BufferState) (k : ℕ) → k < length pending → length pending ≤ 4097 → slice_index pending k ≡ 10 → HasNoNewline (take k pending) → new.text ≡ take k pending → new.pending ≡ drop (k + 1) pending → IsCut pending new
+pub IsCut-at : (pending : List ℕ) (new : BufferState) (k : ℕ) → k < length pending → length pending ≤ 4097 → slice_index pending k ≡ 10 → HasNoNewline (take k pending) → new.text ≡ take k pending → new.pending ≡ drop (k + 1) pending → CutsLine pending new
 IsCut-at pending new k below room newline plain text rest = record {
   whole =
       let d : drop k pending ≡ 10 ∷ drop (k + 1) pending = drop_more pending k 0 below ∙ ap (λ b. b ∷ drop (k + 1) pending) newline in

@@ -11,7 +11,7 @@ use Rattle.cable_definitions.specs.Text.{number}
 use Rattle.cable_text.specs.declared.number.NumberFault.{NumberFault}
 use Rattle.cable_text.specs.declared.number.NumberFault.TheVariants.{NotDecimal, Over}
 use Rattle.cable_definitions.specs.Numeral.{digit_bytes, numeral, spelling}
-use Rattle.cable_text.specs.Number.{IsDigit, IsNumeral, IsOutside, value_after}
+use Rattle.cable_text.specs.Number.{IsDigit, IsNumeral, LiesOutside, value_after}
 use Rattle.cable_text.proofs.Numerals.{digit_bytes-zero, digit_bytes-step, numeral-zero, numeral-digit_bytes, numeral-decimal, length-digit_bytes_step}
 
 -- the bytes after the first
@@ -176,7 +176,7 @@ value_after-drop n bytes i whole below e =
     omega (arith, m, value_after-ge (n * 10 + (get_or bytes i 0 - 48)) (drop (i + 1) bytes))
 
 -- a number within the range whose spelling is the word is what a reading of the word answers
-pub reads_exactly : (word : List ℕ) (least most z : ℤ) (r : Result ℤ NumberFault) → negsuc (10 ^ 64 - 2) ≤ℤ least → most ≤ℤ pos (10 ^ 64 - 1) → IfOk r (λ y. word ≡ number y) → IfOk r (λ y. (least ≤ℤ y) × (y ≤ℤ most)) → IfErr r (λ e. e ≡ NotDecimal → (y : ℤ) → word ≢ spelling y) → IfErr r (λ e. e ≡ Over → (y : ℤ) × (word ≡ spelling y) × IsOutside least most y) → word ≡ number z → least ≤ℤ z → z ≤ℤ most → r ≡ Ok z
+pub reads_exactly : (word : List ℕ) (least most z : ℤ) (r : Result ℤ NumberFault) → negsuc (10 ^ 64 - 2) ≤ℤ least → most ≤ℤ pos (10 ^ 64 - 1) → IfOk r (λ y. word ≡ number y) → IfOk r (λ y. (least ≤ℤ y) × (y ≤ℤ most)) → IfErr r (λ e. e ≡ NotDecimal → (y : ℤ) → word ≢ spelling y) → IfErr r (λ e. e ≡ Over → (y : ℤ) × (word ≡ spelling y) × LiesOutside least most y) → word ≡ number z → least ≤ℤ z → z ≤ℤ most → r ≡ Ok z
 reads_exactly word least most z (Ok y) low high ok within not_decimal over e from to =
     let f : spelling y ≡ spelling z = spelling-number y (omega (arith, ints, within.0)) (omega (arith, ints, within.1)) ∙ sym ok ∙ e ∙ sym (spelling-number z (omega (arith, ints)) (omega (arith, ints))) in
     ap Ok (spelling-same y z f)
@@ -185,8 +185,8 @@ reads_exactly word least most z (Err NotDecimal) low high ok within not_decimal 
 reads_exactly word least most z (Err Over) low high ok within not_decimal over e from to =
     let w = over refl in
     let s : w.0 ≡ z = spelling-same w.0 z (sym w.1 ∙ e ∙ sym (spelling-number z (omega (arith, ints)) (omega (arith, ints)))) in
-    absurd (not_outside least most z from to (subst (IsOutside least most) s w.2))
+    absurd (not_outside least most z from to (subst (LiesOutside least most) s w.2))
   where
-    not_outside : (a b y : ℤ) → a ≤ℤ y → y ≤ℤ b → IsOutside a b y → ⊥
+    not_outside : (a b y : ℤ) → a ≤ℤ y → y ≤ℤ b → LiesOutside a b y → ⊥
     not_outside a b y h k (inl p) = omega (arith, ints, p)
     not_outside a b y h k (inr p) = omega (arith, ints, p)

@@ -21,7 +21,7 @@ pub record LinesState : Type 0 where
   pub kept : Option LineFault
 
 -- the pending bytes began with the line and a newline
-pub record IsCut (pending : List ℕ) (new : BufferState) : Type 0 where
+pub record CutsLine (pending : List ℕ) (new : BufferState) : Type 0 where
   pub whole : pending ≡ new.text ++ 10 ∷ new.pending
   pub plain : HasNoNewline new.text
   pub short : length new.text ≤ 4096
@@ -32,16 +32,16 @@ ahead pending None = None
 ahead pending (Some left) = Some (pending ++ left)
 
 -- this piece stands next in the bytes to come, and these are left after it
-abbrev pub Finds : Option (List ℕ) → Piece → Option (List ℕ) → Type 0
-Finds None piece after = after ≡ None
-Finds (Some bytes) piece after = (rest : List ℕ) × IsNext bytes piece rest × (after ≡ Some rest)
+abbrev pub StandsNext : Option (List ℕ) → Piece → Option (List ℕ) → Type 0
+StandsNext None piece after = after ≡ None
+StandsNext (Some bytes) piece after = (rest : List ℕ) × IsNext bytes piece rest × (after ≡ Some rest)
 
 -- what a search for the next line does to the bytes to come: a source that tells nothing gives short lines without a newline all the same
 abbrev pub ReadsPiece : Option (List ℕ) → Option (List ℕ) → List ℕ → ℕ → ℕ → Result Line LineFault → Type 0
-ReadsPiece old new text i j (Ok Text) = Finds old (Whole text) new × HasNoNewline text × (length text ≤ 4096)
-ReadsPiece old new text i j (Ok End) = Finds old NoLine new
-ReadsPiece old new text i j (Err TooLong) = Finds old LongLine new
-ReadsPiece old new text i j (Err NoNewline) = Finds old CutLine new
+ReadsPiece old new text i j (Ok Text) = StandsNext old (Whole text) new × HasNoNewline text × (length text ≤ 4096)
+ReadsPiece old new text i j (Ok End) = StandsNext old NoLine new
+ReadsPiece old new text i j (Err TooLong) = StandsNext old LongLine new
+ReadsPiece old new text i j (Err NoNewline) = StandsNext old CutLine new
 ReadsPiece old new text i j (Err Read) = Rose i j
 
 -- the number of the line after so many, which stands still at its last value

@@ -9,8 +9,8 @@ abbrev pub Spells : List ℕ → ℤ → Type 0
 Spells word z = word ≡ spelling z
 
 -- the number lies outside the two ends
-abbrev pub IsOutside : ℤ → ℤ → ℤ → Type 0
-IsOutside least most z = (z <ℤ least) ⊎ (most <ℤ z)
+abbrev pub LiesOutside : ℤ → ℤ → ℤ → Type 0
+LiesOutside least most z = (z <ℤ least) ⊎ (most <ℤ z)
 
 -- `0` to `9`
 abbrev pub IsDigit : ℕ → Type 0
@@ -28,7 +28,7 @@ value_after n [] = n
 value_after n (b ∷ bytes) = value_after (n * 10 + (b - 48)) bytes
 
 -- what a word spells: a number of 128 bits, one beyond these, or none
-abbrev pub IsSpelled : List ℕ → Spelled → Type 0
-IsSpelled word (Value z) = word ≡ spelling z
-IsSpelled word Beyond = (z : ℤ) × (word ≡ spelling z) × IsOutside (negsuc (2 ^ 127 - 1)) (pos (2 ^ 127 - 1)) z
-IsSpelled word Nothing = (z : ℤ) → word ≢ spelling z
+abbrev pub IsSpelling : List ℕ → Spelled → Type 0
+IsSpelling word (Value z) = word ≡ spelling z
+IsSpelling word Beyond = (z : ℤ) × (word ≡ spelling z) × LiesOutside (negsuc (2 ^ 127 - 1)) (pos (2 ^ 127 - 1)) z
+IsSpelling word Nothing = (z : ℤ) → word ≢ spelling z

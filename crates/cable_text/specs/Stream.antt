@@ -6,9 +6,9 @@ abbrev pub Rose : ℕ → ℕ → Type 0
 Rose old new = (old < new) ⊎ (new ≡ 2 ^ 64 - 1)
 
 -- a source had these bytes in front, and has the rest; one that tells nothing goes on so
-abbrev pub Gives : Option (List ℕ) → Option (List ℕ) → List ℕ → Type 0
-Gives None new front = new ≡ None
-Gives (Some bytes) new front = (rest : List ℕ) × (bytes ≡ front ++ rest) × (new ≡ Some rest)
+abbrev pub GivesFront : Option (List ℕ) → Option (List ℕ) → List ℕ → Type 0
+GivesFront None new front = new ≡ None
+GivesFront (Some bytes) new front = (rest : List ℕ) × (bytes ≡ front ++ rest) × (new ≡ Some rest)
 
 -- no byte is left in a source that tells its bytes
 abbrev pub IsAtEnd : Option (List ℕ) → Type 0

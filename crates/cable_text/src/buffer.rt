@@ -2,7 +2,7 @@ ghost use Rattle.std.specs.Prelude.{◌≡◌, ◌≢◌, ℕ, ◌+◌, ◌-◌,
 ghost use Rattle.cable_definitions.specs.Text.{HasNoNewline};
 ghost use Rattle.cable_text.specs.Stream.{Rose, IsAtEnd};
 ghost use Rattle.std.specs.Bool.{OnTrue, OnFalse};
-ghost use Rattle.cable_text.specs.Lines.{ahead, IsCut, ReadsPiece};
+ghost use Rattle.cable_text.specs.Lines.{ahead, CutsLine, ReadsPiece};
 
 use crate::fault::{Line, LineFault};
 use crate::stream::{Failed, Source};
@@ -128,7 +128,7 @@ impl Buffer {
     fn cut_line(&mut self, from: usize) -> bool
         requires within { from ≤ length self.old.pending }
         requires before { HasNoNewline (take from self.old.pending) }
-        ensures found { OnTrue result (IsCut self.old.pending self.new) }
+        ensures found { OnTrue result (CutsLine self.old.pending self.new) }
         ensures none { OnFalse result (self.new ≡ self.old) }
         ensures plain { OnFalse result (HasNoNewline self.old.pending) }
     {

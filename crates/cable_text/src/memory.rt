@@ -1,7 +1,7 @@
 ghost use Rattle.std.specs.Prelude.{◌≡◌, ◌≢◌, ℕ, ◌<◌, ◌≤◌, ◌↔◌, [], List, Some, length, take, ◌+◌, ◌^◌, ◌++◌, IsTrue, IfOk, OnOk, OnErr};
 ghost use Rattle.std.specs.Bool.{OnTrue, OnFalse};
-ghost use Rattle.cable_text.specs.Stream.{Rose, Gives, IsAtEnd, StaysSilent, Writes};
-ghost use Rattle.cable_text.specs.Memory.{IsListed, FailsAsListed, GivesPiece, TakesAll, TakesPart};
+ghost use Rattle.cable_text.specs.Stream.{Rose, GivesFront, IsAtEnd, StaysSilent, Writes};
+ghost use Rattle.cable_text.specs.Memory.{FailsNext, FailsAsListed, GivesPiece, TakesAll, TakesPart};
 
 use crate::stream::{Failed, Sink, Source};
 use std::alloc::{AllocError, Global};
@@ -60,7 +60,7 @@ impl Source for MemorySource {
 
     ghost faults = { λ s. s.failed };
 
-    /// Gives as many bytes as `piece`, `buf` and what is left allow.
+    /// GivesFront as many bytes as `piece`, `buf` and what is left allow.
     ///
     /// # Errors
     ///
@@ -68,7 +68,7 @@ impl Source for MemorySource {
     fn pull(&mut self, buf: &mut [u8]) -> Result<usize, Failed>
         requires { 0 < length buf.old }
         ensures bound { IfOk result (λ n. n ≤ length buf.old) }
-        ensures bytes { IfOk result (λ n. Gives (Some self.old.left) (Some self.new.left) (take n buf.new)) }
+        ensures bytes { IfOk result (λ n. GivesFront (Some self.old.left) (Some self.new.left) (take n buf.new)) }
         ensures end { IfOk result (λ n. n ≡ 0 → IsAtEnd (Some self.old.left)) }
         ensures silent { StaysSilent (Some self.old.left) (Some self.new.left) }
         ensures failed { OnErr result (Rose self.old.failed self.new.failed) }
@@ -197,7 +197,7 @@ impl Sink for MemorySink {
 
 /// Whether the call after this many is listed.
 fn is_listed(fails: &[u64], calls: u64) -> bool
-    ensures { IsTrue result ↔ IsListed fails.now calls }
+    ensures { IsTrue result ↔ FailsNext fails.now calls }
 {
     if calls == u64::MAX {
         return false;

@@ -2,7 +2,7 @@ ghost use Rattle.std.specs.Prelude.{◌≡◌, ◌≢◌, ℕ, ℤ, ◌+◌, ◌
 ghost use Rattle.cable_definitions.specs.Text.{number};
 ghost use Rattle.cable_text.specs.Stream.{Writes};
 ghost use Rattle.cable_definitions.specs.Numeral.{spelling, numeral};
-ghost use Rattle.cable_text.specs.Number.{IsOutside, IsDigit, IsNumeral, IsSpelled, value_after};
+ghost use Rattle.cable_text.specs.Number.{LiesOutside, IsDigit, IsNumeral, IsSpelling, value_after};
 
 use crate::stream::{Failed, Sink};
 use thiserror::Error;
@@ -36,7 +36,7 @@ pub fn read_number(word: &[u8], least: i128, most: i128) -> Result<i128, NumberF
     ensures ok { IfOk result (λ z. word.now ≡ number z) }
     ensures within { IfOk result (λ z. (least ≤ℤ z) × (z ≤ℤ most)) }
     ensures not_decimal { IfErr result (λ e. e ≡ NumberFault.NotDecimal → (z : ℤ) → word.now ≢ spelling z) }
-    ensures over { IfErr result (λ e. e ≡ NumberFault.Over → (z : ℤ) × (word.now ≡ spelling z) × IsOutside least most z) }
+    ensures over { IfErr result (λ e. e ≡ NumberFault.Over → (z : ℤ) × (word.now ≡ spelling z) × LiesOutside least most z) }
 {
     match spelled_by(word) {
         Spelled::Value(value) => {
@@ -52,7 +52,7 @@ pub fn read_number(word: &[u8], least: i128, most: i128) -> Result<i128, NumberF
 
 /// What the word spells.
 fn spelled_by(word: &[u8]) -> Spelled
-    ensures { IsSpelled word.now result }
+    ensures { IsSpelling word.now result }
 {
     if word.is_empty() || word[0] != b'-' {
         return spelled_natural(word);
@@ -63,7 +63,7 @@ fn spelled_by(word: &[u8]) -> Spelled
 /// What a word that doesn't begin with `-` spells.
 fn spelled_natural(word: &[u8]) -> Spelled
     requires { slice_index word.now 0 ≢ 45 }
-    ensures { IsSpelled word.now result }
+    ensures { IsSpelling word.now result }
 {
     if !is_numeral(word) {
         return Spelled::Nothing;
@@ -79,7 +79,7 @@ fn spelled_natural(word: &[u8]) -> Spelled
 
 /// What `-` and this word together spell.
 fn spelled_negative(word: &[u8]) -> Spelled
-    ensures { IsSpelled (45 ∷ word.now) result }
+    ensures { IsSpelling (45 ∷ word.now) result }
 {
     if !is_numeral(word) {
         return Spelled::Nothing;

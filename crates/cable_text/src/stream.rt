@@ -1,5 +1,5 @@
 ghost use Rattle.std.specs.Prelude.{◌≡◌, ℕ, ◌<◌, ◌≤◌, List, length, take, Option, IfOk, OnErr};
-ghost use Rattle.cable_text.specs.Stream.{Rose, Gives, IsAtEnd, StaysSilent, Writes};
+ghost use Rattle.cable_text.specs.Stream.{Rose, GivesFront, IsAtEnd, StaysSilent, Writes};
 
 use thiserror::Error;
 
@@ -25,7 +25,7 @@ pub trait Source {
     fn pull(&mut self, buf: &mut [u8]) -> Result<usize, Failed>
         requires { 0 < length buf.old }
         ensures bound { IfOk result (λ n. n ≤ length buf.old) }
-        ensures bytes { IfOk result (λ n. Gives (left self.old) (left self.new) (take n buf.new)) }
+        ensures bytes { IfOk result (λ n. GivesFront (left self.old) (left self.new) (take n buf.new)) }
         ensures end { IfOk result (λ n. n ≡ 0 → IsAtEnd (left self.old)) }
         ensures silent { StaysSilent (left self.old) (left self.new) }
         ensures failed { OnErr result (Rose (faults self.old) (faults self.new)) }

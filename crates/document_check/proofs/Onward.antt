@@ -14,14 +14,14 @@ use Rattle.cable_definitions.specs.declared.claim.Cause.{Cause}
 use Rattle.cable_definitions.specs.Site.{Site, IsValid}
 use Rattle.cable_definitions.specs.Row.{Row}
 use Rattle.cable_definitions.specs.Text.{line, item_lines, claim_line, Whole}
-use Rattle.cable_definitions.specs.Tree.{Item, RowItem, WorkItem, Kept, nothing_kept, Accepts, Leads}
+use Rattle.cable_definitions.specs.Tree.{Item, RowItem, WorkItem, ProofState, empty_state, Accepts, Leads}
 use Rattle.cable_definitions.specs.Built.{IsBuiltItem}
 use Rattle.cable_definitions.specs.Refusal.{DocLine, RowLine, WorkLine, WeightLine, ActLine, ClaimLine, RawClaim, act_from, row_from, Phase, AtBudget, AtItem, AtWeights, AtCables, AtLast, Reader, reader_at, IsFoundByFeeding, IsRowRefused, IsWorkRefused, IsClaimOf, IsClaimRefused, IsLeastCause, GoesOn, ReadsLines}
 use Rattle.cable_definitions.specs.declared.claim.Refusal.{Refusal}
-use Rattle.cable_text.specs.Stream.{Gives}
+use Rattle.cable_text.specs.Stream.{GivesFront}
 use Rattle.document_laws.proofs.Going.{claim-same, same_node, same_weights}
 use Rattle.document_laws.proofs.Spelled.{members-read}
-use Rattle.proof_text.specs.Reading.{counted, ReadsTo, ReadsLineOf, RefusedAfter}
+use Rattle.proof_text.specs.Reading.{line_number_after, ReadsTo, ReadsLine, RefusedAfter}
 use Rattle.proof_text.specs.Items.{weight_lines, ReadsRow, ReadsWork}
 use Rattle.proof_text.proofs.Behind.{reads_append}
 use Rattle.document_check.specs.Progress.{ReadsFrom, HasCome, HasRead, IsRefusedFrom, state, items_text}
@@ -40,19 +40,19 @@ from_then s arcs r e f (Some bytes) middle after ls ms h k =
     (d.0, d.1, reads_append s arcs r e f bytes h.0 d.0 ls ms h.2 d.2)
 
 -- a line that is fed
-fed_line : (s : Site) (arcs : List CandidateArc) (r next : Reader) (before after : Option (List ℕ)) (l : DocLine) → ReadsLineOf s r before after l → ((cause : Cause) → ¬ (IsFoundByFeeding s arcs r l cause)) → GoesOn s arcs r l next
+fed_line : (s : Site) (arcs : List CandidateArc) (r next : Reader) (before after : Option (List ℕ)) (l : DocLine) → ReadsLine s r before after l → ((cause : Cause) → ¬ (IsFoundByFeeding s arcs r l cause)) → GoesOn s arcs r l next
     → ReadsFrom s arcs r before after (l ∷ []) next
 fed_line s arcs r next None after l h none goes = h.2
 fed_line s arcs r next (Some bytes) after l h none goes = let found = h.2 in (found.0, found.2, (h.0, found.0, next, found.1, h.1, none, goes, (refl, refl)))
 
-gives_then : (before middle after : Option (List ℕ)) (a b : List ℕ) → Gives before middle a → Gives middle after b → Gives before after (a ++ b)
-gives_then None middle after a b h k = let P : Option (List ℕ) → Type 0 = λ o. Gives o after b in subst P h k
+gives_then : (before middle after : Option (List ℕ)) (a b : List ℕ) → GivesFront before middle a → GivesFront middle after b → GivesFront before after (a ++ b)
+gives_then None middle after a b h k = let P : Option (List ℕ) → Type 0 = λ o. GivesFront o after b in subst P h k
 gives_then (Some bytes) middle after a b h k =
-    let P : Option (List ℕ) → Type 0 = λ o. Gives o after b in
+    let P : Option (List ℕ) → Type 0 = λ o. GivesFront o after b in
     let d = subst P h.2 k in
     (d.0, h.1 ∙ ap (λ (rest : List ℕ). a ++ rest) d.1 ∙ sym (append_assoc a b d.0), d.2)
 
-gives_nothing : (now : Option (List ℕ)) → Gives now now []
+gives_nothing : (now : Option (List ℕ)) → GivesFront now now []
 gives_nothing None = refl
 gives_nothing (Some bytes) = (bytes, refl, refl)
 
@@ -62,7 +62,7 @@ reads_nothing s arcs r (Some bytes) = (bytes, refl, (refl, refl))
 
 -- ---- going on
 pub come_on : (s : Site) (arcs : List CandidateArc) (first now after : Option (List ℕ)) (start lines later : ℕ) (r e : Reader) (front more : List ℕ) (ms : List DocLine) → HasCome s arcs first now start lines r front
-    → ReadsFrom s arcs r now after ms e → Gives now after more → later ≡ counted lines (length ms) → HasCome s arcs first after start later e (front ++ more)
+    → ReadsFrom s arcs r now after ms e → GivesFront now after more → later ≡ line_number_after lines (length ms) → HasCome s arcs first after start later e (front ++ more)
 come_on s arcs first now after start lines later r e front more ms h reads gives n = record {
   read_lines = h.read_lines ++ ms;
   reads = from_then s arcs (reader_at AtBudget) r e first now after h.read_lines ms h.reads reads;
@@ -70,13 +70,13 @@ come_on s arcs first now after start lines later r e front more ms h reads gives
   text = gives_then first now after front more h.text gives;
 }
 
-pub come_first : (s : Site) (arcs : List CandidateArc) (first after : Option (List ℕ)) (start later : ℕ) (e : Reader) (more : List ℕ) (ms : List DocLine) → ReadsFrom s arcs (reader_at AtBudget) first after ms e → Gives first after more
-    → later ≡ counted start (length ms) → HasCome s arcs first after start later e more
+pub come_first : (s : Site) (arcs : List CandidateArc) (first after : Option (List ℕ)) (start later : ℕ) (e : Reader) (more : List ℕ) (ms : List DocLine) → ReadsFrom s arcs (reader_at AtBudget) first after ms e → GivesFront first after more
+    → later ≡ line_number_after start (length ms) → HasCome s arcs first after start later e more
 come_first s arcs first after start later e more ms reads gives n = record { read_lines = ms; reads = reads; lines_are = n; text = gives }
 
 -- lines that aren't items
-pub read_on : (s : Site) (arcs : List CandidateArc) (first now after : Option (List ℕ)) (start lines later : ℕ) (phase next : Phase) (n : ℕ) (kept : Kept) (cables further : List Cable) (front : List Item → List ℕ) (more : List ℕ) (ms : List DocLine)
-    → HasRead s arcs first now start lines (state phase n kept cables) front → ReadsFrom s arcs (state phase n kept cables) now after ms (state next n kept further) → Gives now after more → later ≡ counted lines (length ms)
+pub read_on : (s : Site) (arcs : List CandidateArc) (first now after : Option (List ℕ)) (start lines later : ℕ) (phase next : Phase) (n : ℕ) (kept : ProofState) (cables further : List Cable) (front : List Item → List ℕ) (more : List ℕ) (ms : List DocLine)
+    → HasRead s arcs first now start lines (state phase n kept cables) front → ReadsFrom s arcs (state phase n kept cables) now after ms (state next n kept further) → GivesFront now after more → later ≡ line_number_after lines (length ms)
     → HasRead s arcs first after start later (state next n kept further) (λ items. front items ++ more)
 read_on s arcs first now after start lines later phase next n kept cables further front more ms h reads gives e = record {
   items = h.items;
@@ -87,7 +87,7 @@ read_on s arcs first now after start lines later phase next n kept cables furthe
 
 -- ---- refusals
 -- a refusal is behind few lines
-numbered : (start lines there line a b : ℕ) → lines ≡ counted start a → line ≡ counted lines (1 + b) → there ≡ a + b → there ≤ 51400002 → start + 60000000 < 2 ^ 64 → line ≡ start + 1 + there
+numbered : (start lines there line a b : ℕ) → lines ≡ line_number_after start a → line ≡ line_number_after lines (1 + b) → there ≡ a + b → there ≤ 51400002 → start + 60000000 < 2 ^ 64 → line ≡ start + 1 + there
 numbered start lines there line a b h k e few small = omega (arith, h, k, e, few, small)
 
 pub refused_reading : (s : Site) (arcs : List CandidateArc) (first now : Option (List ℕ)) (start lines : ℕ) (r : Reader) (front : List ℕ) (refusal : Refusal) → HasCome s arcs first now start lines r front
@@ -113,11 +113,11 @@ refused_reading s arcs (Some whole) now start lines r front refusal h d bytes e 
           (few_lines s arcs here.reader whole here.left (h.read_lines ++ here.read_lines) all) small;
     }
 
-pub refused_feeding : (s : Site) (arcs : List CandidateArc) (first now after : Option (List ℕ)) (start lines : ℕ) (r : Reader) (ls : List DocLine) (l : DocLine) (refusal : Refusal) → ReadsFrom s arcs (reader_at AtBudget) first now ls r → lines ≡ counted start (length ls)
-    → ReadsLineOf s r now after l → IsLeastCause (IsFoundByFeeding s arcs r l) refusal.cause → refusal.line ≡ counted lines 1 → IsRefusedFrom s arcs first start refusal
+pub refused_feeding : (s : Site) (arcs : List CandidateArc) (first now after : Option (List ℕ)) (start lines : ℕ) (r : Reader) (ls : List DocLine) (l : DocLine) (refusal : Refusal) → ReadsFrom s arcs (reader_at AtBudget) first now ls r → lines ≡ line_number_after start (length ls)
+    → ReadsLine s r now after l → IsLeastCause (IsFoundByFeeding s arcs r l) refusal.cause → refusal.line ≡ line_number_after lines 1 → IsRefusedFrom s arcs first start refusal
 refused_feeding s arcs None now after start lines r ls l refusal reads m d least n bytes e small = absurd (cc)
 refused_feeding s arcs (Some whole) now after start lines r ls l refusal reads m d least n bytes e small =
-    let P : Option (List ℕ) → Type 0 = λ o. ReadsLineOf s r o after l in
+    let P : Option (List ℕ) → Type 0 = λ o. ReadsLine s r o after l in
     let here = subst P reads.1 d in
     let same : whole ≡ bytes = cc in
     let Q : List ℕ → Type 0 = λ b. ReadsLines s arcs (reader_at AtBudget) b ls r reads.0 in
@@ -138,8 +138,8 @@ least_as : (P Q : Cause → Type 0) (cause : Cause) → ((c : Cause) → P c →
 least_as P Q cause there back h = record { holds = there cause h.holds; least = λ other l k. h.least other l (back other k) }
 
 -- ---- items
-leads_one : (s : Site) (arcs : List CandidateArc) (n : ℕ) (items : List Item) (item : Item) (old mid new : Kept) → Leads s arcs n old items mid → Accepts s arcs n mid item new → Leads s arcs n old (items ++ item ∷ []) new
-leads_one s arcs n [] item old mid new l a = let P : Kept → Type 0 = λ k. Accepts s arcs n k item new in (new, subst P l a, refl)
+leads_one : (s : Site) (arcs : List CandidateArc) (n : ℕ) (items : List Item) (item : Item) (old mid new : ProofState) → Leads s arcs n old items mid → Accepts s arcs n mid item new → Leads s arcs n old (items ++ item ∷ []) new
+leads_one s arcs n [] item old mid new l a = let P : ProofState → Type 0 = λ k. Accepts s arcs n k item new in (new, subst P l a, refl)
 leads_one s arcs n (x ∷ items) item old mid new l a = (l.0, l.1, leads_one s arcs n items item l.0 mid new l.2 a)
 
 one_text : (n : ℕ) (items : List Item) (item : Item) → items_text n items ++ item_lines item ≡ items_text n (items ++ item ∷ [])
@@ -151,12 +151,12 @@ one_text n items item =
     ∙ ap concat (sym (map-append item_lines items (item ∷ []))))
 
 -- an item more
-item_on : (s : Site) (arcs : List CandidateArc) (first now after : Option (List ℕ)) (start lines later n : ℕ) (kept new : Kept) (item : Item) (ms : List DocLine) → HasRead s arcs first now start lines (state AtItem n kept []) (items_text n)
-    → ReadsFrom s arcs (state AtItem n kept []) now after ms (state AtItem n new []) → Gives now after (item_lines item) → later ≡ counted lines (length ms) → Accepts s arcs n kept item new → IsBuiltItem item
+item_on : (s : Site) (arcs : List CandidateArc) (first now after : Option (List ℕ)) (start lines later n : ℕ) (kept new : ProofState) (item : Item) (ms : List DocLine) → HasRead s arcs first now start lines (state AtItem n kept []) (items_text n)
+    → ReadsFrom s arcs (state AtItem n kept []) now after ms (state AtItem n new []) → GivesFront now after (item_lines item) → later ≡ line_number_after lines (length ms) → Accepts s arcs n kept item new → IsBuiltItem item
     → HasRead s arcs first after start later (state AtItem n new []) (items_text n)
 item_on s arcs first now after start lines later n kept new item ms h reads gives e accepts built = record {
   items = h.items ++ item ∷ [];
-  accepted = leads_one s arcs n h.items item nothing_kept kept new h.accepted accepts;
+  accepted = leads_one s arcs n h.items item empty_state kept new h.accepted accepts;
   built = All-append IsBuiltItem h.items (item ∷ []) h.built (All-cons IsBuiltItem item [] built (All-nil IsBuiltItem));
   come =
       let P : List ℕ → Type 0 = λ text. HasCome s arcs first after start later (state AtItem n new []) text in
@@ -166,8 +166,8 @@ item_on s arcs first now after start lines later n kept new item ms h reads give
 row_read : (kind : RowKind) (members : List ℕ) → row_from kind (map pos members) ≡ record { kind = kind; members = members }
 row_read kind members = ap (λ (ms : List ℕ). let row : Row = record { kind = kind; members = ms } in row) (members-read members)
 
-pub row_on : (s : Site) (arcs : List CandidateArc) (first now after : Option (List ℕ)) (start lines later n : ℕ) (kept new : Kept) (kind : RowKind) (members : List ℕ)
-    → HasRead s arcs first now start lines (state AtItem n kept []) (items_text n) → ReadsRow now after kind members → later ≡ counted lines 1
+pub row_on : (s : Site) (arcs : List CandidateArc) (first now after : Option (List ℕ)) (start lines later n : ℕ) (kept new : ProofState) (kind : RowKind) (members : List ℕ)
+    → HasRead s arcs first now start lines (state AtItem n kept []) (items_text n) → ReadsRow now after kind members → later ≡ line_number_after lines 1
     → Accepts s arcs n kept (RowItem (record { kind = kind; members = members })) new → ((cause : Cause) → ¬ (IsRowRefused s arcs kept (record { kind = kind; members = members }) cause))
     → HasRead s arcs first after start later (state AtItem n new []) (items_text n)
 row_on s arcs first now after start lines later n kept new kind members h row e accepts none =
@@ -178,8 +178,8 @@ row_on s arcs first now after start lines later n kept new kind members h row e 
     item_on s arcs first now after start lines later n kept new (RowItem (record { kind = kind; members = members })) (RowLine kind (map pos members) ∷ []) h
     (fed_line s arcs r (state AtItem n new []) now after (RowLine kind (map pos members)) (row.reads s r refl) (subst Q same none) (new, subst P same accepts, refl)) row.text e accepts row.built
 
-pub row_refused : (s : Site) (arcs : List CandidateArc) (first now after : Option (List ℕ)) (start lines n : ℕ) (kept : Kept) (kind : RowKind) (members : List ℕ) (refusal : Refusal)
-    → HasRead s arcs first now start lines (state AtItem n kept []) (items_text n) → ReadsRow now after kind members → refusal.line ≡ counted lines 1
+pub row_refused : (s : Site) (arcs : List CandidateArc) (first now after : Option (List ℕ)) (start lines n : ℕ) (kept : ProofState) (kind : RowKind) (members : List ℕ) (refusal : Refusal)
+    → HasRead s arcs first now start lines (state AtItem n kept []) (items_text n) → ReadsRow now after kind members → refusal.line ≡ line_number_after lines 1
     → IsLeastCause (IsRowRefused s arcs kept (record { kind = kind; members = members })) refusal.cause → IsRefusedFrom s arcs first start refusal
 row_refused s arcs first now after start lines n kept kind members refusal h row e least =
     let r = state AtItem n kept [] in
@@ -190,7 +190,7 @@ weight_count : (ws : List (ℕ × ℤ)) → length (weight_lines ws) ≡ length 
 weight_count ws = length-map ws (λ (r, w). WeightLine (pos r) w)
 
 -- what feeding finds of an act is what is wrong with the work
-module _ (s : Site) (arcs : List CandidateArc) {before after : Option (List ℕ)} (n : ℕ) (kept : Kept) (v : ℕ) (weights : List (ℕ × ℤ)) (act : Act) (work : ReadsWork before after v weights act) where
+module _ (s : Site) (arcs : List CandidateArc) {before after : Option (List ℕ)} (n : ℕ) (kept : ProofState) (v : ℕ) (weights : List (ℕ × ℤ)) (act : Act) (work : ReadsWork before after v weights act) where
   work_found : (cause : Cause) → IsFoundByFeeding s arcs (state (AtWeights v 0 weights) n kept []) (ActLine work.raw) cause → IsWorkRefused s arcs n kept v weights act cause
   work_found cause h =
       let one = sym h.2 in
@@ -202,8 +202,8 @@ module _ (s : Site) (arcs : List CandidateArc) {before after : Option (List ℕ)
   work_there : (cause : Cause) → IsWorkRefused s arcs n kept v weights act cause → IsFoundByFeeding s arcs (state (AtWeights v 0 weights) n kept []) (ActLine work.raw) cause
   work_there cause h = let R : Act → Type 0 = λ a. IsWorkRefused s arcs n kept v weights a cause in (v, weights, refl, subst R (sym work.act_is) h)
 
-pub work_on : (s : Site) (arcs : List CandidateArc) (first now after : Option (List ℕ)) (start lines later n : ℕ) (kept new : Kept) (v : ℕ) (weights : List (ℕ × ℤ)) (act : Act)
-    → HasRead s arcs first now start lines (state AtItem n kept []) (items_text n) → ReadsWork now after v weights act → later ≡ counted lines (2 + length weights)
+pub work_on : (s : Site) (arcs : List CandidateArc) (first now after : Option (List ℕ)) (start lines later n : ℕ) (kept new : ProofState) (v : ℕ) (weights : List (ℕ × ℤ)) (act : Act)
+    → HasRead s arcs first now start lines (state AtItem n kept []) (items_text n) → ReadsWork now after v weights act → later ≡ line_number_after lines (2 + length weights)
     → Accepts s arcs n kept (WorkItem v weights act) new → ((cause : Cause) → ¬ (IsWorkRefused s arcs n kept v weights act cause))
     → HasRead s arcs first after start later (state AtItem n new []) (items_text n)
 work_on s arcs first now after start lines later n kept new v weights act h work e accepts none =
@@ -218,28 +218,28 @@ work_on s arcs first now after start lines later n kept new v weights act h work
     (from_then s arcs r at_act done now work.middle after front (ActLine work.raw ∷ []) (from_of s arcs r at_act now work.middle front (work.reads s r refl)) act_read)
     work.text (counts weights lines later front refl e) accepts work.few
   where
-    counts : (ws : List (ℕ × ℤ)) (lines later : ℕ) (front : List DocLine) → front ≡ WorkLine (pos v) (pos (length ws)) ∷ weight_lines ws → later ≡ counted lines (2 + length ws) → later ≡ counted lines (length (front ++ ActLine work.raw ∷ []))
+    counts : (ws : List (ℕ × ℤ)) (lines later : ℕ) (front : List DocLine) → front ≡ WorkLine (pos v) (pos (length ws)) ∷ weight_lines ws → later ≡ line_number_after lines (2 + length ws) → later ≡ line_number_after lines (length (front ++ ActLine work.raw ∷ []))
     counts ws lines later front f e = let a = length-append front (ActLine work.raw ∷ []) in let b = ap length f in let c = weight_count ws in omega (arith, a, b, c, e)
 
-pub work_refused : (s : Site) (arcs : List CandidateArc) (first now after : Option (List ℕ)) (start lines n : ℕ) (kept : Kept) (v : ℕ) (weights : List (ℕ × ℤ)) (act : Act) (refusal : Refusal)
-    → HasRead s arcs first now start lines (state AtItem n kept []) (items_text n) → ReadsWork now after v weights act → refusal.line ≡ counted lines (2 + length weights)
+pub work_refused : (s : Site) (arcs : List CandidateArc) (first now after : Option (List ℕ)) (start lines n : ℕ) (kept : ProofState) (v : ℕ) (weights : List (ℕ × ℤ)) (act : Act) (refusal : Refusal)
+    → HasRead s arcs first now start lines (state AtItem n kept []) (items_text n) → ReadsWork now after v weights act → refusal.line ≡ line_number_after lines (2 + length weights)
     → IsLeastCause (IsWorkRefused s arcs n kept v weights act) refusal.cause → IsRefusedFrom s arcs first start refusal
 work_refused s arcs first now after start lines n kept v weights act refusal h work e least =
     let r = state AtItem n kept [] in
     let at_act = state (AtWeights v 0 weights) n kept [] in
     let front = WorkLine (pos v) (pos (length weights)) ∷ weight_lines weights in
-    refused_feeding s arcs first work.middle after start (counted lines (1 + length weights)) at_act (h.come.read_lines ++ front) (ActLine work.raw) refusal
+    refused_feeding s arcs first work.middle after start (line_number_after lines (1 + length weights)) at_act (h.come.read_lines ++ front) (ActLine work.raw) refusal
     (from_then s arcs (reader_at AtBudget) r at_act first now work.middle h.come.read_lines front h.come.reads (from_of s arcs r at_act now work.middle front (work.reads s r refl)))
     (counts h.come.read_lines weights start lines front refl h.come.lines_are) (work.reads_act s at_act refl)
     (least_as (IsWorkRefused s arcs n kept v weights act) (IsFoundByFeeding s arcs at_act (ActLine work.raw)) refusal.cause (work_there s arcs n kept v weights act work) (work_found s arcs n kept v weights act work) least) (omega (arith, e))
   where
-    counts : (ls : List DocLine) (ws : List (ℕ × ℤ)) (start lines : ℕ) (front : List DocLine) → front ≡ WorkLine (pos v) (pos (length ws)) ∷ weight_lines ws → lines ≡ counted start (length ls) → counted lines (1 + length ws) ≡ counted start (length (ls ++ front))
+    counts : (ls : List DocLine) (ws : List (ℕ × ℤ)) (start lines : ℕ) (front : List DocLine) → front ≡ WorkLine (pos v) (pos (length ws)) ∷ weight_lines ws → lines ≡ line_number_after start (length ls) → line_number_after lines (1 + length ws) ≡ line_number_after start (length (ls ++ front))
     counts ls ws start lines front f e = let a = length-append ls front in let b = ap length f in let c = weight_count ws in omega (arith, a, b, c, e)
 
 -- ---- the claim
-pub claim_on : (s : Site) (arcs : List CandidateArc) (first now after : Option (List ℕ)) (start lines later n : ℕ) (kept : Kept) (cables : List Cable) (front : List Item → List ℕ) (raw : RawClaim) (claim : Claim) → IsValid s
-    → HasRead s arcs first now start lines (state (AtCables 0) n kept cables) front → IsClaimOf s raw claim → ReadsLineOf s (state (AtCables 0) n kept cables) now after (ClaimLine raw) → Gives now after (claim_line s claim)
-    → later ≡ counted lines 1 → ((cause : Cause) → ¬ (IsClaimRefused s n kept cables claim cause)) → HasRead s arcs first after start later (state AtLast n kept cables) (λ items. front items ++ claim_line s claim)
+pub claim_on : (s : Site) (arcs : List CandidateArc) (first now after : Option (List ℕ)) (start lines later n : ℕ) (kept : ProofState) (cables : List Cable) (front : List Item → List ℕ) (raw : RawClaim) (claim : Claim) → IsValid s
+    → HasRead s arcs first now start lines (state (AtCables 0) n kept cables) front → IsClaimOf s raw claim → ReadsLine s (state (AtCables 0) n kept cables) now after (ClaimLine raw) → GivesFront now after (claim_line s claim)
+    → later ≡ line_number_after lines 1 → ((cause : Cause) → ¬ (IsClaimRefused s n kept cables claim cause)) → HasRead s arcs first after start later (state AtLast n kept cables) (λ items. front items ++ claim_line s claim)
 claim_on s arcs first now after start lines later n kept cables front raw claim valid h of read gives e none =
     read_on s arcs first now after start lines later (AtCables 0) AtLast n kept cables cables front (claim_line s claim) (ClaimLine raw ∷ []) h
     (fed_line s arcs (state (AtCables 0) n kept cables) (state AtLast n kept cables) now after (ClaimLine raw) read found refl) gives e
@@ -247,9 +247,9 @@ claim_on s arcs first now after start lines later n kept cables front raw claim 
     found : (cause : Cause) → ¬ (IsFoundByFeeding s arcs (state (AtCables 0) n kept cables) (ClaimLine raw) cause)
     found cause k = let P : Claim → Type 0 = λ c. IsClaimRefused s n kept cables c cause in none cause (subst P (claim-same s valid raw k.0 claim k.1 of) k.2)
 
-pub claim_refused : (s : Site) (arcs : List CandidateArc) (first now after : Option (List ℕ)) (start lines n : ℕ) (kept : Kept) (cables : List Cable) (front : List Item → List ℕ) (raw : RawClaim) (claim : Claim) (refusal : Refusal) → IsValid s
-    → HasRead s arcs first now start lines (state (AtCables 0) n kept cables) front → IsClaimOf s raw claim → ReadsLineOf s (state (AtCables 0) n kept cables) now after (ClaimLine raw)
-    → refusal.line ≡ counted lines 1 → IsLeastCause (IsClaimRefused s n kept cables claim) refusal.cause → IsRefusedFrom s arcs first start refusal
+pub claim_refused : (s : Site) (arcs : List CandidateArc) (first now after : Option (List ℕ)) (start lines n : ℕ) (kept : ProofState) (cables : List Cable) (front : List Item → List ℕ) (raw : RawClaim) (claim : Claim) (refusal : Refusal) → IsValid s
+    → HasRead s arcs first now start lines (state (AtCables 0) n kept cables) front → IsClaimOf s raw claim → ReadsLine s (state (AtCables 0) n kept cables) now after (ClaimLine raw)
+    → refusal.line ≡ line_number_after lines 1 → IsLeastCause (IsClaimRefused s n kept cables claim) refusal.cause → IsRefusedFrom s arcs first start refusal
 claim_refused s arcs first now after start lines n kept cables front raw claim refusal valid h of read e least =
     refused_feeding s arcs first now after start lines (state (AtCables 0) n kept cables) h.come.read_lines (ClaimLine raw) refusal h.come.reads h.come.lines_are read
     (least_as (IsClaimRefused s n kept cables claim) (IsFoundByFeeding s arcs (state (AtCables 0) n kept cables) (ClaimLine raw)) refusal.cause (λ c k. (claim, of, k)) back least) e

@@ -12,7 +12,7 @@ use Rattle.cable_definitions.specs.Site.{Site}
 use Rattle.cable_definitions.specs.Text.{Whole}
 use Rattle.cable_definitions.specs.Items.{Field, within, IsWithin}
 use Rattle.cable_definitions.specs.Row.{Row}
-use Rattle.cable_definitions.specs.Tree.{Kept}
+use Rattle.cable_definitions.specs.Tree.{ProofState}
 use Rattle.cable_definitions.specs.Built.{most_weights}
 use Rattle.cable_definitions.specs.Refusal.{DocLine, BudgetLine, RowLine, WorkLine, WeightLine, ActLine, LayoutLine, CableLine, ClaimLine, EndLine, IsWithinLimits, Phase, AtBudget, AtItem, AtWeights, AtCables, AtLast, Past, AtJudged, AtAnyCables, Reader, reader_at, is_allowed, row_from, IsReadable, GoesOn, ReadsLines}
 
@@ -58,7 +58,7 @@ next_short next e m same h = let P : Reader → Type 0 = λ r. IsShortAt r m in 
 one_row : (old new : List Row) (row : Row) → new ≡ old ++ row ∷ [] → length new ≡ length old + 1
 one_row old new row e = ap length e ∙ length-append old (row ∷ [])
 
-line_short : (s : Site) (arcs : List CandidateArc) (phase : Phase) (n : ℕ) (kept : Kept) (cables : List Cable) (l : DocLine) (next : Reader) (m : ℕ) → IsTrue (is_allowed phase l) → ¬ (¬ (IsWithinLimits l))
+line_short : (s : Site) (arcs : List CandidateArc) (phase : Phase) (n : ℕ) (kept : ProofState) (cables : List Cable) (l : DocLine) (next : Reader) (m : ℕ) → IsTrue (is_allowed phase l) → ¬ (¬ (IsWithinLimits l))
     → GoesOn s arcs (record { phase = phase; budget = n; kept = kept; cables = cables }) l next → IsShort phase n (length kept.rows) kept.works m → IsShortAt next (m + 1)
 line_short s arcs AtBudget n kept cables (BudgetLine z) next m allowed limits goes short =
     let most : nat_abs z ≤ 50000 = not_false (nat_abs z) 50000 (λ none. limits (λ w. none (one_within z 1 50000 [] w.0))) in

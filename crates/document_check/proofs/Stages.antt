@@ -15,12 +15,12 @@ use Rattle.cable_definitions.specs.Arcs.{AreArcs}
 use Rattle.cable_definitions.specs.Command.{IsBudget}
 use Rattle.cable_definitions.specs.Document.{IsClaimInRange}
 use Rattle.cable_definitions.specs.Text.{line, cable_line, claim_line}
-use Rattle.cable_definitions.specs.Tree.{Item, RowItem, WorkItem, Kept, nothing_kept, Accepts, Agrees}
+use Rattle.cable_definitions.specs.Tree.{Item, RowItem, WorkItem, ProofState, empty_state, Accepts, Agrees}
 use Rattle.cable_definitions.specs.Built.{IsBuiltItem, IsBuiltClaim}
 use Rattle.cable_definitions.specs.Refusal.{BudgetLine, LayoutLine, EndLine, RawClaim, ClaimLine, AtBudget, AtItem, AtCables, AtLast, Past, Reader, reader_at, IsRowRefused, IsWorkRefused, IsClaimOf, IsClaimRefused}
 use Rattle.cable_definitions.specs.declared.claim.Refusal.{Refusal}
 use Rattle.bound_value.specs.declared.work.Work.{Work}
-use Rattle.cable_text.specs.Stream.{Gives, IsAtEnd}
+use Rattle.cable_text.specs.Stream.{GivesFront, IsAtEnd}
 use Rattle.cable_text.specs.Lines.{ahead}
 use Rattle.cable_text.specs.declared.fault.LineFault.{LineFault}
 use Rattle.document_laws.proofs.ArcsOnce.{arcs-same}
@@ -28,7 +28,7 @@ use Rattle.proof_text.specs.declared.fault.ItemFault.{ItemFault}
 use Rattle.proof_text.specs.declared.fault.ItemFault.TheVariants.{Refused as RefusedItem, Read as ReadItem}
 use Rattle.proof_text.specs.declared.items.Next.{Next}
 use Rattle.proof_text.specs.declared.items.Next.TheVariants.{Row as NextRow, Work as NextWork, Layout as NextLayout}
-use Rattle.proof_text.specs.Reading.{counted, ReadsTo, ReadsLineOf, RefusedAfter, IfRefused as IfItemRefused}
+use Rattle.proof_text.specs.Reading.{line_number_after, ReadsTo, ReadsLine, RefusedAfter, IfRefused as IfItemRefused}
 use Rattle.proof_text.specs.Items.{ItemsState, ReadsRow, ReadsWork, ReadsNext}
 use Rattle.proof_text.specs.Cables.{ReadsCables, cables_left}
 use Rattle.proof_checker.specs.State.{CheckerState, Refuses}
@@ -36,7 +36,7 @@ use Rattle.document_check.specs.declared.document.DocumentFault.{DocumentFault}
 use Rattle.document_check.specs.declared.document.DocumentFault.TheVariants.{Refused, Read, Memory}
 use Rattle.document_check.specs.Behind.{IsAcceptedBehind}
 use Rattle.document_check.specs.Feeding.{fault_from, FeedsItems, FeedsToLayout, FeedsNext}
-use Rattle.document_check.specs.Progress.{HasCome, HasRead, IsRefusedFrom, ReadsOn, RefusesOn, OfRefusal, IfRefused, state, items_text, layout_text, cables_text}
+use Rattle.document_check.specs.Progress.{HasCome, HasRead, IsRefusedFrom, ReadsOn, RefusesOn, OfRefusal, IfRefused, state, items_text, text_to_layout, cables_text}
 use Rattle.document_check.proofs.Onward.{from_of, come_first, read_on, refused_reading, row_on, row_refused, work_on, work_refused, claim_on, claim_refused}
 
 -- ---- faults
@@ -62,28 +62,28 @@ pub err_refused : {A : Type 0} → (result : Result A DocumentFault) (fault : Do
 err_refused {A = A} result fault Q e h = let P : Result A DocumentFault → Type 0 = λ r. IfRefused r Q in subst P (sym e) h
 
 -- ---- the budget
-pub begun : (s : Site) (arcs : List CandidateArc) (before after : Option (List ℕ)) (old new n budget : ℕ) (kept : Kept) → budget ≡ n → kept ≡ nothing_kept
-    → ((s : Site) (r : Reader) → r.phase ≡ AtBudget → ReadsTo s r before after (BudgetLine (pos n) ∷ []) (record r { phase = AtItem; budget = n })) → Gives before after (line (codes "budget" ∷ decimal n ∷ []))
-    → new ≡ counted old 1 → HasRead s arcs before after old new (state AtItem budget kept []) (items_text budget)
+pub begun : (s : Site) (arcs : List CandidateArc) (before after : Option (List ℕ)) (old new n budget : ℕ) (kept : ProofState) → budget ≡ n → kept ≡ empty_state
+    → ((s : Site) (r : Reader) → r.phase ≡ AtBudget → ReadsTo s r before after (BudgetLine (pos n) ∷ []) (record r { phase = AtItem; budget = n })) → GivesFront before after (line (codes "budget" ∷ decimal n ∷ []))
+    → new ≡ line_number_after old 1 → HasRead s arcs before after old new (state AtItem budget kept []) (items_text budget)
 begun s arcs before after old new n budget kept e f reads text lines =
     let P : ℕ → Type 0 = λ m. HasRead s arcs before after old new (state AtItem m kept []) (items_text m) in
-    let Q : Kept → Type 0 = λ k. HasRead s arcs before after old new (state AtItem n k []) (items_text n) in
+    let Q : ProofState → Type 0 = λ k. HasRead s arcs before after old new (state AtItem n k []) (items_text n) in
     let first = reader_at AtBudget in
     let budget_line = line (codes "budget" ∷ decimal n ∷ []) in
-    let R : List ℕ → Type 0 = λ text. HasCome s arcs before after old new (state AtItem n nothing_kept []) text in
+    let R : List ℕ → Type 0 = λ text. HasCome s arcs before after old new (state AtItem n empty_state []) text in
     subst P (sym e) (subst Q (sym f) (record {
       items = [];
       accepted = refl;
       built = All-nil IsBuiltItem;
       come = subst R (sym (append-nil budget_line))
-          (come_first s arcs before after old new (state AtItem n nothing_kept []) budget_line (BudgetLine (pos n) ∷ []) (from_of s arcs first (state AtItem n nothing_kept []) before after (BudgetLine (pos n) ∷ []) (reads s first refl)) text lines);
+          (come_first s arcs before after old new (state AtItem n empty_state []) budget_line (BudgetLine (pos n) ∷ []) (from_of s arcs first (state AtItem n empty_state []) before after (BudgetLine (pos n) ∷ []) (reads s first refl)) text lines);
     }))
 
 -- ---- rows
 -- the row that is held
 pub row_there : (before after : Option (List ℕ)) (old new : ℕ) (held : ItemsState) (next : Next) (kind : RowKind) (members : List ℕ) → next ≡ NextRow → kind ≡ held.kind → members ≡ held.members
     → (kept : Option ItemFault) → kept ≡ None → IfNone kept (ReadsNext before after old new held (Ok next))
-    → ReadsRow before after kind members × (new ≡ counted old 1)
+    → ReadsRow before after kind members × (new ≡ line_number_after old 1)
 row_there before after old new held next kind members e k m kept none h =
     let P : Next → Type 0 = λ x. ReadsNext before after old new held (Ok x) in
     let Q : RowKind → Type 0 = λ x. ReadsRow before after x members in
@@ -91,7 +91,7 @@ row_there before after old new held next kind members e k m kept none h =
     let there = subst P e (at_none kept none h) in
     (subst Q (sym k) (subst R (sym m) there.0), there.1)
 
-pub fed_row : (old new : CheckerState) (before after : Option (List ℕ)) (lines later : ℕ) (kind : RowKind) (members : List ℕ) → ReadsRow before after kind members × (later ≡ counted lines 1)
+pub fed_row : (old new : CheckerState) (before after : Option (List ℕ)) (lines later : ℕ) (kind : RowKind) (members : List ℕ) → ReadsRow before after kind members × (later ≡ line_number_after lines 1)
     → Accepts old.site old.arcs old.budget old.kept (RowItem (record { kind = kind; members = members })) new.kept
     → ((cause : Cause) → ¬ (IsRowRefused old.site old.arcs old.kept (record { kind = kind; members = members }) cause)) → new ≡ record old { kept = new.kept }
     → FeedsNext old new before after lines later None
@@ -107,7 +107,7 @@ fed_row old new before after lines later kind members row accepts none stays = (
       omega (arith, budget, rows, most, works),
 )
 
-pub refused_row : (old new : CheckerState) (before after : Option (List ℕ)) (lines later number line : ℕ) (kind : RowKind) (members : List ℕ) (refusal : Refusal) → ReadsRow before after kind members × (later ≡ counted lines 1) → number ≡ later → line ≡ number
+pub refused_row : (old new : CheckerState) (before after : Option (List ℕ)) (lines later number line : ℕ) (kind : RowKind) (members : List ℕ) (refusal : Refusal) → ReadsRow before after kind members × (later ≡ line_number_after lines 1) → number ≡ later → line ≡ number
     → Refuses old new line (IsRowRefused old.site old.arcs old.kept (record { kind = kind; members = members })) refusal
     → RefusesOn old.site old.arcs before lines (state AtItem old.budget old.kept []) (items_text old.budget) refusal
 refused_row old new before after lines later number line kind members refusal row e f h first start there =
@@ -116,13 +116,13 @@ refused_row old new before after lines later number line kind members refusal ro
 -- ---- works
 pub work_there : (before after : Option (List ℕ)) (old new : ℕ) (held : ItemsState) (next : Next) (work : Work) → next ≡ NextWork → work ≡ held.work
     → (kept : Option ItemFault) → kept ≡ None → IfNone kept (ReadsNext before after old new held (Ok next))
-    → ReadsWork before after work.node work.weights work.act × (new ≡ counted old (2 + length work.weights))
+    → ReadsWork before after work.node work.weights work.act × (new ≡ line_number_after old (2 + length work.weights))
 work_there before after old new held next work e w kept none h =
     let P : Next → Type 0 = λ x. ReadsNext before after old new held (Ok x) in
-    let Q : Work → Type 0 = λ x. ReadsWork before after x.node x.weights x.act × (new ≡ counted old (2 + length x.weights)) in
+    let Q : Work → Type 0 = λ x. ReadsWork before after x.node x.weights x.act × (new ≡ line_number_after old (2 + length x.weights)) in
     subst Q (sym w) (subst P e (at_none kept none h))
 
-pub fed_work : (old new : CheckerState) (before after : Option (List ℕ)) (lines later : ℕ) (work : Work) → ReadsWork before after work.node work.weights work.act × (later ≡ counted lines (2 + length work.weights))
+pub fed_work : (old new : CheckerState) (before after : Option (List ℕ)) (lines later : ℕ) (work : Work) → ReadsWork before after work.node work.weights work.act × (later ≡ line_number_after lines (2 + length work.weights))
     → Accepts old.site old.arcs old.budget old.kept (WorkItem work.node work.weights work.act) new.kept
     → ((cause : Cause) → ¬ (IsWorkRefused old.site old.arcs old.budget old.kept work.node work.weights work.act cause)) → new ≡ record old { kept = new.kept }
     → FeedsNext old new before after lines later None
@@ -138,7 +138,7 @@ fed_work old new before after lines later work read accepts none stays = (
       omega (arith, budget, rows, more, works),
 )
 
-pub refused_work : (old new : CheckerState) (before after : Option (List ℕ)) (lines later number line : ℕ) (work : Work) (refusal : Refusal) → ReadsWork before after work.node work.weights work.act × (later ≡ counted lines (2 + length work.weights)) → number ≡ later
+pub refused_work : (old new : CheckerState) (before after : Option (List ℕ)) (lines later number line : ℕ) (work : Work) (refusal : Refusal) → ReadsWork before after work.node work.weights work.act × (later ≡ line_number_after lines (2 + length work.weights)) → number ≡ later
     → line ≡ number → Refuses old new line (IsWorkRefused old.site old.arcs old.budget old.kept work.node work.weights work.act) refusal
     → RefusesOn old.site old.arcs before lines (state AtItem old.budget old.kept []) (items_text old.budget) refusal
 refused_work old new before after lines later number line work refusal read e f h first start there =
@@ -202,7 +202,7 @@ still_open old mid new e h = ap (λ (c : CheckerState). c.refused) h ∙ e
 
 -- ---- the claim
 pub judged : (s : Site) (c : CheckerState) (before after : Option (List ℕ)) (lines later : ℕ) (cables : List Cable) (claim : Claim) → IsValid s → c.site ≡ s
-    → (raw : RawClaim) × IsClaimOf s raw claim × ((r : Reader) → r.phase ≡ AtCables 0 → ReadsLineOf s r before after (ClaimLine raw)) → Gives before after (claim_line s claim) → later ≡ counted lines 1
+    → (raw : RawClaim) × IsClaimOf s raw claim × ((r : Reader) → r.phase ≡ AtCables 0 → ReadsLine s r before after (ClaimLine raw)) → GivesFront before after (claim_line s claim) → later ≡ line_number_after lines 1
     → ((cause : Cause) → ¬ (IsClaimRefused c.site c.budget c.kept cables claim cause))
     → (front : List Item → List ℕ) → ReadsOn s c.arcs before after lines later (state (AtCables 0) c.budget c.kept cables) (state AtLast c.budget c.kept cables) front (λ items. front items ++ claim_line s claim)
 judged s c before after lines later cables claim valid own read gives e none front first start h =
@@ -210,7 +210,7 @@ judged s c before after lines later cables claim valid own read gives e none fro
     claim_on s c.arcs first before after start lines later c.budget c.kept cables front read.0 claim valid h read.1 (read.2 (state (AtCables 0) c.budget c.kept cables) refl) gives e (subst P own none)
 
 pub refused_claim : (s : Site) (c new : CheckerState) (before after : Option (List ℕ)) (lines later number line : ℕ) (cables : List Cable) (claim : Claim) (refusal : Refusal) → IsValid s → c.site ≡ s
-    → (raw : RawClaim) × IsClaimOf s raw claim × ((r : Reader) → r.phase ≡ AtCables 0 → ReadsLineOf s r before after (ClaimLine raw)) → later ≡ counted lines 1 → number ≡ later → line ≡ number
+    → (raw : RawClaim) × IsClaimOf s raw claim × ((r : Reader) → r.phase ≡ AtCables 0 → ReadsLine s r before after (ClaimLine raw)) → later ≡ line_number_after lines 1 → number ≡ later → line ≡ number
     → Refuses c new line (IsClaimRefused c.site c.budget c.kept cables claim) refusal
     → (front : List Item → List ℕ) → RefusesOn s c.arcs before lines (state (AtCables 0) c.budget c.kept cables) front refusal
 refused_claim s c new before after lines later number line cables claim refusal valid own read e n f k front first start h =
@@ -227,46 +227,46 @@ refused_verdict s c before lines cables refusal d front first start h =
 
 -- ---- the end of the document
 -- how many lines are counted behind the cables
-cables_counted : (start lines later count a b : ℕ) → lines ≡ counted start a → b ≡ count → (1 ≤ count → later ≡ counted lines count) → (count ≡ 0 → later ≡ lines) → later ≡ counted lines b
+cables_counted : (start lines later count a b : ℕ) → lines ≡ line_number_after start a → b ≡ count → (1 ≤ count → later ≡ line_number_after lines count) → (count ≡ 0 → later ≡ lines) → later ≡ line_number_after lines b
 cables_counted start lines later zero a b e f some none = let g = none refl in omega (arith, e, f, g)
 cables_counted start lines later (suc count) a b e f some none = let g = some (omega arith) in omega (arith, f, g)
 
-pub cables_on : (s : Site) (arcs : List CandidateArc) (n count : ℕ) (kept : Kept) (cables : List Cable) (before after : Option (List ℕ)) (lines later : ℕ) → ReadsCables s true count 0 before after cables → Gives before after (concat (map (cable_line s) cables))
-    → length cables ≡ count → (1 ≤ count → later ≡ counted lines count) → (count ≡ 0 → later ≡ lines)
-    → ReadsOn s arcs before after lines later (state (AtCables count) n kept []) (state (AtCables 0) n kept cables) (layout_text n count) (cables_text s n count cables)
+pub cables_on : (s : Site) (arcs : List CandidateArc) (n count : ℕ) (kept : ProofState) (cables : List Cable) (before after : Option (List ℕ)) (lines later : ℕ) → ReadsCables s true count 0 before after cables → GivesFront before after (concat (map (cable_line s) cables))
+    → length cables ≡ count → (1 ≤ count → later ≡ line_number_after lines count) → (count ≡ 0 → later ≡ lines)
+    → ReadsOn s arcs before after lines later (state (AtCables count) n kept []) (state (AtCables 0) n kept cables) (text_to_layout n count) (cables_text s n count cables)
 cables_on s arcs n count kept cables before after lines later read gives size some none first start h =
     let r = state (AtCables count) n kept [] in
     let e = state (AtCables 0) n kept cables in
-    read_on s arcs first before after start lines later (AtCables count) (AtCables 0) n kept [] cables (layout_text n count) (concat (map (cable_line s) cables)) read.read_lines h
+    read_on s arcs first before after start lines later (AtCables count) (AtCables 0) n kept [] cables (text_to_layout n count) (concat (map (cable_line s) cables)) read.read_lines h
     (from_of s arcs r e before after read.read_lines (read.reads r refl refl)) gives
     (cables_counted start lines later count (length h.come.read_lines) (length read.read_lines) h.come.lines_are (read.lines_count ∙ size) some none)
 
 -- a cable line is refused by reading
-pub refused_cable : (s : Site) (arcs : List CandidateArc) (n count : ℕ) (kept : Kept) (before : Option (List ℕ)) (lines : ℕ) (refusal : Refusal) → ((r : Reader) → r.phase ≡ cables_left true count → r.cables ≡ [] → RefusedAfter s r before lines refusal)
-    → RefusesOn s arcs before lines (state (AtCables count) n kept []) (layout_text n count) refusal
+pub refused_cable : (s : Site) (arcs : List CandidateArc) (n count : ℕ) (kept : ProofState) (before : Option (List ℕ)) (lines : ℕ) (refusal : Refusal) → ((r : Reader) → r.phase ≡ cables_left true count → r.cables ≡ [] → RefusedAfter s r before lines refusal)
+    → RefusesOn s arcs before lines (state (AtCables count) n kept []) (text_to_layout n count) refusal
 refused_cable s arcs n count kept before lines refusal d first start h =
     let r = state (AtCables count) n kept [] in
-    refused_reading s arcs first before start lines r (layout_text n count h.items) refusal h.come (d r refl refl)
+    refused_reading s arcs first before start lines r (text_to_layout n count h.items) refusal h.come (d r refl refl)
 
 -- the last line is refused by reading
-pub refused_last : (s : Site) (arcs : List CandidateArc) (n : ℕ) (kept : Kept) (cables : List Cable) (front : List Item → List ℕ) (before : Option (List ℕ)) (lines : ℕ) (refusal : Refusal) → ((s : Site) (r : Reader) → r.phase ≡ AtLast → RefusedAfter s r before lines refusal)
+pub refused_last : (s : Site) (arcs : List CandidateArc) (n : ℕ) (kept : ProofState) (cables : List Cable) (front : List Item → List ℕ) (before : Option (List ℕ)) (lines : ℕ) (refusal : Refusal) → ((s : Site) (r : Reader) → r.phase ≡ AtLast → RefusedAfter s r before lines refusal)
     → RefusesOn s arcs before lines (state AtLast n kept cables) front refusal
 refused_last s arcs n kept cables front before lines refusal d first start h =
     let r = state AtLast n kept cables in
     refused_reading s arcs first before start lines r (front h.items) refusal h.come (d s r refl)
 
 -- the text of the whole document behind its site
-whole_text : (first after : Option (List ℕ)) (text : List ℕ) → Gives first after text → IsAtEnd after → (bytes : List ℕ) → first ≡ Some bytes → bytes ≡ text
+whole_text : (first after : Option (List ℕ)) (text : List ℕ) → GivesFront first after text → IsAtEnd after → (bytes : List ℕ) → first ≡ Some bytes → bytes ≡ text
 whole_text None after text h end bytes e = absurd (cc)
 whole_text (Some whole) after text h end bytes e =
     let last : h.0 ≡ [] = subst IsAtEnd h.2 end in
     let same : whole ≡ bytes = cc in
     sym same ∙ h.1 ∙ ap (λ (rest : List ℕ). text ++ rest) last ∙ append-nil text
 
-pub accepted_end : (s : Site) (arcs : List CandidateArc) (n count : ℕ) (kept : Kept) (cables : List Cable) (claim : Claim) (before after : Option (List ℕ)) (lines later : ℕ) (first : Option (List ℕ)) (start : ℕ)
+pub accepted_end : (s : Site) (arcs : List CandidateArc) (n count : ℕ) (kept : ProofState) (cables : List Cable) (claim : Claim) (before after : Option (List ℕ)) (lines later : ℕ) (first : Option (List ℕ)) (start : ℕ)
     → AreArcs s arcs → IsBudget n → length cables ≡ count → AllPairs (λ c d. c.from < d.from) cables → Agrees s n kept cables claim → IsClaimInRange claim → IsBuiltClaim claim
     → HasRead s arcs first before start lines (state AtLast n kept cables) (λ items. cables_text s n count cables items ++ claim_line s claim)
-    → Gives before after (line (codes "end" ∷ codes "document" ∷ [])) → ((s : Site) (r : Reader) → r.phase ≡ AtLast → ReadsTo s r before after (EndLine ∷ []) (record r { phase = Past })) → later ≡ counted lines 1 → IsAtEnd after
+    → GivesFront before after (line (codes "end" ∷ codes "document" ∷ [])) → ((s : Site) (r : Reader) → r.phase ≡ AtLast → ReadsTo s r before after (EndLine ∷ []) (record r { phase = Past })) → later ≡ line_number_after lines 1 → IsAtEnd after
     → IsAcceptedBehind s first cables claim
 accepted_end s arcs n count kept cables claim before after lines later first start are budget size order agrees range built h gives reads e end =
     let r = state AtLast n kept cables in
@@ -317,9 +317,9 @@ items_refused s c before middle start lines result fault refusal e f own are h f
 
 pub end_refused : {A : Type 0} → (s : Site) (c d : CheckerState) (before middle after : Option (List ℕ)) (start lines later count : ℕ) (result : Result A DocumentFault) (fault : DocumentFault) (refusal : Refusal) → result ≡ Err fault → result ≡ Err (Refused refusal) → c.site ≡ s → AreArcs s c.arcs
     → HasRead s c.arcs before middle start lines (state AtItem c.budget c.kept []) (items_text c.budget) → FeedsToLayout c d middle after lines later count
-    → OfRefusal fault (RefusesOn s d.arcs after later (state (AtCables count) d.budget d.kept []) (layout_text d.budget count)) → (others : List CandidateArc) → AreArcs s others → IsRefusedFrom s others before start refusal
+    → OfRefusal fault (RefusesOn s d.arcs after later (state (AtCables count) d.budget d.kept []) (text_to_layout d.budget count)) → (others : List CandidateArc) → AreArcs s others → IsRefusedFrom s others before start refusal
 end_refused s c d before middle after start lines later count result fault refusal e f own are h fed faulty others there =
-    let refused = of_refusal result fault refusal (RefusesOn s d.arcs after later (state (AtCables count) d.budget d.kept []) (layout_text d.budget count)) e f faulty in
-    let P : CheckerState → Type 0 = λ x. RefusesOn s x.arcs after later (state (AtCables count) x.budget x.kept []) (layout_text x.budget count) refusal in
-    let Q : Site → Type 0 = λ x. ReadsOn x c.arcs middle after lines later (state AtItem c.budget c.kept []) (state (AtCables count) c.budget d.kept []) (items_text c.budget) (layout_text c.budget count) in
+    let refused = of_refusal result fault refusal (RefusesOn s d.arcs after later (state (AtCables count) d.budget d.kept []) (text_to_layout d.budget count)) e f faulty in
+    let P : CheckerState → Type 0 = λ x. RefusesOn s x.arcs after later (state (AtCables count) x.budget x.kept []) (text_to_layout x.budget count) refusal in
+    let Q : Site → Type 0 = λ x. ReadsOn x c.arcs middle after lines later (state AtItem c.budget c.kept []) (state (AtCables count) c.budget d.kept []) (items_text c.budget) (text_to_layout c.budget count) in
     any_arcs s c.arcs before start refusal are (subst P fed.state_is refused before start (subst Q own fed.reads before start h)) others there

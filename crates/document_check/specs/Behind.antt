@@ -7,7 +7,7 @@ use Rattle.cable_definitions.specs.declared.cable.Arc.{Arc}
 use Rattle.cable_definitions.specs.declared.claim.Claim.{Claim}
 use Rattle.cable_definitions.specs.Site.{Site}
 use Rattle.cable_definitions.specs.Arcs.{AreArcs}
-use Rattle.cable_definitions.specs.Tree.{Item, Kept, IsAccepted, Agrees}
+use Rattle.cable_definitions.specs.Tree.{Item, ProofState, IsAccepted, Agrees}
 use Rattle.cable_definitions.specs.Text.{line, item_lines, cable_line, claim_line}
 use Rattle.cable_definitions.specs.Command.{IsBudget}
 use Rattle.cable_definitions.specs.Document.{IsClaimInRange}
@@ -24,7 +24,7 @@ pub record IsAcceptedBehind (s : Site) (before : Option (List ℕ)) (cables : Li
   pub arcs : List Arc
   pub budget : ℕ
   pub items : List Item
-  pub kept : Kept
+  pub kept : ProofState
   pub are_arcs : AreArcs s arcs
   pub is_budget : IsBudget budget
   pub in_order : AllPairs (λ c d. c.from < d.from) cables

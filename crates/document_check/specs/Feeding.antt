@@ -6,7 +6,7 @@ use Rattle.proof_text.specs.declared.fault.ItemFault.TheVariants.{Refused as Ref
 use Rattle.proof_checker.specs.State.{CheckerState}
 use Rattle.document_check.specs.declared.document.DocumentFault.{DocumentFault}
 use Rattle.document_check.specs.declared.document.DocumentFault.TheVariants.{Refused, Read}
-use Rattle.document_check.specs.Progress.{ReadsOn, state, items_text, layout_text}
+use Rattle.document_check.specs.Progress.{ReadsOn, state, items_text, text_to_layout}
 
 -- the fault of a document whose lines aren't read further
 abbrev pub fault_from : ItemFault → DocumentFault
@@ -26,7 +26,7 @@ pub record FeedsItems (old new : CheckerState) (before after : Option (List ℕ)
 pub record FeedsToLayout (old new : CheckerState) (before after : Option (List ℕ)) (lines_old lines_new count : ℕ) : Type 0 where
   pub state_is : new ≡ record old { kept = new.kept }
   pub most : count ≤ 256
-  pub reads : ReadsOn old.site old.arcs before after lines_old lines_new (state AtItem old.budget old.kept []) (state (AtCables count) old.budget new.kept []) (items_text old.budget) (layout_text old.budget count)
+  pub reads : ReadsOn old.site old.arcs before after lines_old lines_new (state AtItem old.budget old.kept []) (state (AtCables count) old.budget new.kept []) (items_text old.budget) (text_to_layout old.budget count)
 
 -- an item is fed, after which fewer may follow; or the line `layout` with this number is read
 abbrev pub FeedsNext : CheckerState → CheckerState → Option (List ℕ) → Option (List ℕ) → ℕ → ℕ → Option ℕ → Type 0

@@ -5,13 +5,13 @@ use Rattle.std.specs.Fmt.{decimal}
 use Rattle.cable_definitions.specs.declared.cable.Cable.{Cable}
 use Rattle.cable_definitions.specs.declared.cable.Arc.{Arc as CandidateArc}
 use Rattle.cable_definitions.specs.Site.{Site}
-use Rattle.cable_definitions.specs.Tree.{Item, Kept, IsAccepted}
+use Rattle.cable_definitions.specs.Tree.{Item, ProofState, IsAccepted}
 use Rattle.cable_definitions.specs.Text.{line, item_lines, cable_line}
 use Rattle.cable_definitions.specs.Built.{IsBuiltItem}
 use Rattle.cable_definitions.specs.Refusal.{DocLine, Phase, AtBudget, Reader, reader_at, ReadsLines, IsRefusedAfter}
 use Rattle.cable_definitions.specs.declared.claim.Refusal.{Refusal}
-use Rattle.cable_text.specs.Stream.{Gives}
-use Rattle.proof_text.specs.Reading.{counted}
+use Rattle.cable_text.specs.Stream.{GivesFront}
+use Rattle.proof_text.specs.Reading.{line_number_after}
 use Rattle.document_check.specs.declared.document.DocumentFault.{DocumentFault}
 use Rattle.document_check.specs.declared.document.DocumentFault.TheVariants.{Refused, Read, Memory}
 
@@ -25,8 +25,8 @@ ReadsFrom s arcs start (Some bytes) after ls e = (rest : List ℕ) × (after ≡
 pub record HasCome (s : Site) (arcs : List CandidateArc) (first now : Option (List ℕ)) (start lines : ℕ) (r : Reader) (front : List ℕ) : Type 0 where
   pub read_lines : List DocLine
   pub reads : ReadsFrom s arcs (reader_at AtBudget) first now read_lines r
-  pub lines_are : lines ≡ counted start (length read_lines)
-  pub text : Gives first now front
+  pub lines_are : lines ≡ line_number_after start (length read_lines)
+  pub text : GivesFront first now front
 
 -- the same, with items that are accepted and of which the text is made
 pub record HasRead (s : Site) (arcs : List CandidateArc) (first now : Option (List ℕ)) (start lines : ℕ) (r : Reader) (front : List Item → List ℕ) : Type 0 where
@@ -51,7 +51,7 @@ RefusesOn s arcs before old r front refusal =
     (first : Option (List ℕ)) (start : ℕ) → HasRead s arcs first before start old r front → IsRefusedFrom s arcs first start refusal
 
 -- a reader behind lines that kept this
-abbrev pub state : Phase → ℕ → Kept → List Cable → Reader
+abbrev pub state : Phase → ℕ → ProofState → List Cable → Reader
 state phase n kept cables = record { phase = phase; budget = n; kept = kept; cables = cables }
 
 -- ---- the text so far
@@ -60,12 +60,12 @@ abbrev pub items_text : ℕ → List Item → List ℕ
 items_text n items = line (codes "budget" ∷ decimal n ∷ []) ++ concat (map item_lines items)
 
 -- behind that the number of cables
-abbrev pub layout_text : ℕ → ℕ → List Item → List ℕ
-layout_text n count items = items_text n items ++ line (codes "layout" ∷ decimal count ∷ [])
+abbrev pub text_to_layout : ℕ → ℕ → List Item → List ℕ
+text_to_layout n count items = items_text n items ++ line (codes "layout" ∷ decimal count ∷ [])
 
 -- behind that the cables
 abbrev pub cables_text : Site → ℕ → ℕ → List Cable → List Item → List ℕ
-cables_text s n count cables items = layout_text n count items ++ concat (map (cable_line s) cables)
+cables_text s n count cables items = text_to_layout n count items ++ concat (map (cable_line s) cables)
 
 -- ---- faults
 -- what holds of the refusal that is the fault, where it is one

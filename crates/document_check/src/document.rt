@@ -12,7 +12,7 @@ ghost use Rattle.cable_text.specs.Stream.{Rose, IsAtEnd};
 ghost use Rattle.cable_text.specs.Lines.{ahead};
 ghost use Rattle.document_check.specs.Behind.{IsAcceptedBehind};
 ghost use Rattle.document_check.specs.Feeding.{FeedsNext, FeedsToLayout, fault_from};
-ghost use Rattle.document_check.specs.Progress.{HasRead, IsRefusedFrom, ReadsOn, RefusesOn, IfRefused, IfRead, state, items_text, layout_text};
+ghost use Rattle.document_check.specs.Progress.{HasRead, IsRefusedFrom, ReadsOn, RefusesOn, IfRefused, IfRead, state, items_text, text_to_layout};
 
 use cable_definitions::claim::{Claim, Refusal};
 use cable_text::{Lines, Source};
@@ -193,11 +193,11 @@ fn read_end_of_document<S: Source>(
     requires most { count ≤ 256 }
     ensures accepted { IfOk result (λ claim. (first : Option (List ℕ)) (start : ℕ) → AreArcs site.now checker.old.arcs → IsBudget checker.old.budget
         → HasRead site.now checker.old.arcs first (ahead lines.old.pending (S.left src.old)) start lines.old.lines
-        (state (AtCables count) checker.old.budget checker.old.kept []) (layout_text checker.old.budget count)
+        (state (AtCables count) checker.old.budget checker.old.kept []) (text_to_layout checker.old.budget count)
         → IsAcceptedBehind site.now first layout.new claim) }
     ensures whole { OnOk result (IsAtEnd (ahead lines.new.pending (S.left src.new))) }
     ensures refused { IfRefused result (RefusesOn site.now checker.old.arcs (ahead lines.old.pending (S.left src.old)) lines.old.lines
-        (state (AtCables count) checker.old.budget checker.old.kept []) (layout_text checker.old.budget count)) }
+        (state (AtCables count) checker.old.budget checker.old.kept []) (text_to_layout checker.old.budget count)) }
     ensures read { IfRead result (Rose (S.faults src.old) (S.faults src.new)) }
     ensures count { S.faults src.old ≤ S.faults src.new }
 {

@@ -6,14 +6,14 @@ use Rattle.cable_definitions.specs.declared.claim.Cause.{Cause}
 use Rattle.cable_definitions.specs.declared.claim.Cause.TheVariants.{Line, Form, Limit, Layout}
 use Rattle.cable_definitions.specs.Site.{Site}
 use Rattle.cable_definitions.specs.Text.{words, line, IsWord, Whole}
-use Rattle.cable_definitions.specs.Refusal.{RawClaim, DocLine, ClaimLine, EndLine, spelling, IsSpelled, HasMembers, IsWithinLimits, Reader, Past, is_allowed, IsLineAt, NamesHold, IsFoundByReading, IsFoundByFeeding, IsReadable, GoesOn, ReadsLines}
+use Rattle.cable_definitions.specs.Refusal.{RawClaim, DocLine, ClaimLine, EndLine, line_spelling, IsSpelled, HasMembers, IsWithinLimits, Reader, Past, is_allowed, IsLineAt, NamesHold, IsFoundByReading, IsFoundByFeeding, IsReadable, GoesOn, ReadsLines}
 use Rattle.document_laws.proofs.Words.{words_plain}
 use Rattle.document_laws.proofs.Decoding.{line-same}
 
 -- a line that a reader goes on after
 pub record CanRead (s : Site) (arcs : List CandidateArc) (r : Reader) (l : DocLine) (next : Reader) : Type 0 where
-  pub are_words : All IsWord (spelling l)
-  pub short : length (words (spelling l)) ≤ 4096
+  pub are_words : All IsWord (line_spelling l)
+  pub short : length (words (line_spelling l)) ≤ 4096
   pub members : HasMembers l
   pub allowed : IsTrue (is_allowed r.phase l)
   pub within : IsWithinLimits l
@@ -21,7 +21,7 @@ pub record CanRead (s : Site) (arcs : List CandidateArc) (r : Reader) (l : DocLi
   pub none_found : (cause : Cause) → ¬ (IsFoundByFeeding s arcs r l cause)
   pub goes_on : GoesOn s arcs r l next
 
-line_at : (s : Site) (arcs : List CandidateArc) (r : Reader) (l : DocLine) (next : Reader) → CanRead s arcs r l next → IsLineAt r.phase (words (spelling l)) l
+line_at : (s : Site) (arcs : List CandidateArc) (r : Reader) (l : DocLine) (next : Reader) → CanRead s arcs r l next → IsLineAt r.phase (words (line_spelling l)) l
 line_at s arcs r l next c = record { spelled = record { are_words = c.are_words; text_is = refl; members = c.members }; allowed = c.allowed }
 
 -- a text with its newline is one
@@ -29,29 +29,29 @@ same_text : (text other : List ℕ) → Whole text ≡ Whole other → text ≡ 
 same_text text other e = cc
 
 -- no cause is found by reading it
-none_by_reading : (s : Site) (arcs : List CandidateArc) (r : Reader) (l : DocLine) (next : Reader) → CanRead s arcs r l next → (cause : Cause) → ¬ (IsFoundByReading s r (Whole (words (spelling l))) cause)
+none_by_reading : (s : Site) (arcs : List CandidateArc) (r : Reader) (l : DocLine) (next : Reader) → CanRead s arcs r l next → (cause : Cause) → ¬ (IsFoundByReading s r (Whole (words (line_spelling l))) cause)
 none_by_reading s arcs r l next c Line h = h
 none_by_reading s arcs r l next c Form (text, e, none) =
-    none l (subst (λ (bytes : List ℕ). IsLineAt r.phase bytes l) (same_text (words (spelling l)) text e) (line_at s arcs r l next c))
+    none l (subst (λ (bytes : List ℕ). IsLineAt r.phase bytes l) (same_text (words (line_spelling l)) text e) (line_at s arcs r l next c))
 none_by_reading s arcs r l next c Limit (text, other, e, at, beyond) =
-    let there = subst (λ (bytes : List ℕ). IsSpelled bytes l) (same_text (words (spelling l)) text e) (line_at s arcs r l next c).spelled in
+    let there = subst (λ (bytes : List ℕ). IsSpelled bytes l) (same_text (words (line_spelling l)) text e) (line_at s arcs r l next c).spelled in
     beyond (subst IsWithinLimits (line-same text l other there at.spelled) c.within)
 none_by_reading s arcs r l next c Layout (text, other, e, at, unnamed) =
-    let there = subst (λ (bytes : List ℕ). IsSpelled bytes l) (same_text (words (spelling l)) text e) (line_at s arcs r l next c).spelled in
+    let there = subst (λ (bytes : List ℕ). IsSpelled bytes l) (same_text (words (line_spelling l)) text e) (line_at s arcs r l next c).spelled in
     unnamed (subst (NamesHold s r) (line-same text l other there at.spelled) c.names)
 none_by_reading s arcs r l next c cause h = absurd h
 
-readable : (s : Site) (arcs : List CandidateArc) (r : Reader) (l : DocLine) (next : Reader) → CanRead s arcs r l next → IsReadable s r (Whole (words (spelling l))) l
-readable s arcs r l next c = record { text = words (spelling l); piece_is = refl; line_is = line_at s arcs r l next c; none_found = none_by_reading s arcs r l next c }
+readable : (s : Site) (arcs : List CandidateArc) (r : Reader) (l : DocLine) (next : Reader) → CanRead s arcs r l next → IsReadable s r (Whole (words (line_spelling l))) l
+readable s arcs r l next c = record { text = words (line_spelling l); piece_is = refl; line_is = line_at s arcs r l next c; none_found = none_by_reading s arcs r l next c }
 
 -- it stands in front of the lines of a run
 pub first-line : (s : Site) (arcs : List CandidateArc) (r next end : Reader) (l : DocLine) (ls : List DocLine) (bytes after rest : List ℕ)
-    → CanRead s arcs r l next → bytes ≡ line (spelling l) ++ after → ReadsLines s arcs next after ls end rest → ReadsLines s arcs r bytes (l ∷ ls) end rest
+    → CanRead s arcs r l next → bytes ≡ line (line_spelling l) ++ after → ReadsLines s arcs next after ls end rest → ReadsLines s arcs r bytes (l ∷ ls) end rest
 first-line s arcs r next end l ls bytes after rest c e reads = (
-  words (spelling l),
+  words (line_spelling l),
   after,
   next,
-  (e ∙ append_assoc (words (spelling l)) (10 ∷ []) after, words_plain (spelling l) c.are_words, c.short),
+  (e ∙ append_assoc (words (line_spelling l)) (10 ∷ []) after, words_plain (line_spelling l) c.are_words, c.short),
   readable s arcs r l next c,
   c.none_found,
   c.goes_on,
@@ -69,7 +69,7 @@ pub record ReadsAll (s : Site) (arcs : List CandidateArc) (r : Reader) (bytes : 
 
 -- a line more in front of it
 pub reads-first : (s : Site) (arcs : List CandidateArc) (r next : Reader) (l : DocLine) (bytes after : List ℕ) (raw : RawClaim)
-    → CanRead s arcs r l next → bytes ≡ line (spelling l) ++ after → ReadsAll s arcs next after raw → ReadsAll s arcs r bytes raw
+    → CanRead s arcs r l next → bytes ≡ line (line_spelling l) ++ after → ReadsAll s arcs next after raw → ReadsAll s arcs r bytes raw
 reads-first s arcs r next l bytes after raw c e w = record {
   lines = l ∷ w.lines;
   front = l ∷ w.front;

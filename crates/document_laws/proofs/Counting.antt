@@ -10,7 +10,7 @@ use Rattle.cable_definitions.specs.declared.row.Act.{Act}
 use Rattle.cable_definitions.specs.declared.row.Act.TheVariants.{Split, Stop, Dead, Full}
 use Rattle.cable_definitions.specs.Site.{Site, IsValid}
 use Rattle.cable_definitions.specs.Arcs.{IsCandidate, AreArcs}
-use Rattle.cable_definitions.specs.Tree.{Item, RowItem, WorkItem, Kept, Node, nothing_kept, node_of, IsActed, Accepts}
+use Rattle.cable_definitions.specs.Tree.{Item, RowItem, WorkItem, ProofState, Node, empty_state, node_of, IsActed, Accepts}
 use Rattle.document_laws.proofs.ArcsOnce.{pairs-head, pairs-tail}
 
 -- ---- lists whose numbers ascend
@@ -77,21 +77,21 @@ cables-most n cables order below =
 
 -- ---- nodes and rows
 -- each work makes at most two nodes, there are at most so many works, and at most 16,384 rows
-pub record IsCounted (n : ℕ) (kept : Kept) : Type 0 where
+pub record IsCounted (n : ℕ) (kept : ProofState) : Type 0 where
   pub nodes : length kept.nodes ≤ 2 * kept.works + 1
   pub works : kept.works ≤ n
   pub rows : length kept.rows ≤ 16384
 
-pub counted-nothing : (n : ℕ) → IsCounted n nothing_kept
+pub counted-nothing : (n : ℕ) → IsCounted n empty_state
 counted-nothing n = record { nodes = omega arith; works = omega arith; rows = omega arith }
 
-counted_act : (s : Site) (arcs : List Arc) (old : Kept) (v : ℕ) (node : Node) (value : ℤ) (act : Act) (nodes : List Node) → IsActed s arcs old v node value act nodes → length nodes ≤ length old.nodes + 2
+counted_act : (s : Site) (arcs : List Arc) (old : ProofState) (v : ℕ) (node : Node) (value : ℤ) (act : Act) (nodes : List Node) → IsActed s arcs old v node value act nodes → length nodes ≤ length old.nodes + 2
 counted_act s arcs old v node value (Split a) nodes h = let e = ap length h.3 in omega (arith, e, length-append {A = Node}, length-set {A = Node})
 counted_act s arcs old v node value Stop nodes h = let e = ap length h.2 in omega (arith, e, length-set {A = Node})
 counted_act s arcs old v node value (Dead why) nodes h = let e = ap length h.3 in omega (arith, e, length-set {A = Node})
 counted_act s arcs old v node value Full nodes h = let e = ap length h.2 in omega (arith, e, length-set {A = Node})
 
-pub counted-accepts : (s : Site) (arcs : List Arc) (n : ℕ) (old : Kept) (item : Item) (new : Kept) → IsCounted n old → Accepts s arcs n old item new → IsCounted n new
+pub counted-accepts : (s : Site) (arcs : List Arc) (n : ℕ) (old : ProofState) (item : Item) (new : ProofState) → IsCounted n old → Accepts s arcs n old item new → IsCounted n new
 counted-accepts s arcs n old (RowItem row) new c a =
     let e = ap length a.nodes in
     let f = a.works in

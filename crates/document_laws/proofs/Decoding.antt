@@ -6,7 +6,7 @@ use Rattle.cable_definitions.specs.declared.row.RowKind.{RowKind}
 use Rattle.cable_definitions.specs.declared.row.RowKind.TheVariants.{Out, Flow, Inlet, Bend, Power, One, Cut}
 use Rattle.cable_definitions.specs.Numeral.{numeral, spelling as spelled}
 use Rattle.cable_definitions.specs.Text.{kind_word}
-use Rattle.cable_definitions.specs.Refusal.{RawAct, ASplit, AStop, AFull, ADeadRow, ADeadPair, ADeadLoad, ADeadLoop, ADeadPower, ADeadCeiling, RawClaim, AnOptimal, AGap, AnOpen, AnInfeasible, DocLine, BudgetLine, RowLine, WorkLine, WeightLine, ActLine, LayoutLine, CableLine, ClaimLine, EndLine, spelling, IsSpelled}
+use Rattle.cable_definitions.specs.Refusal.{RawAct, ASplit, AStop, AFull, ADeadRow, ADeadPair, ADeadLoad, ADeadLoop, ADeadPower, ADeadCeiling, RawClaim, AnOptimal, AGap, AnOpen, AnInfeasible, DocLine, BudgetLine, RowLine, WorkLine, WeightLine, ActLine, LayoutLine, CableLine, ClaimLine, EndLine, line_spelling, IsSpelled}
 use Rattle.cable_text.specs.Number.{value_after}
 use Rattle.cable_text.proofs.Reading.{value-numeral, IsNumeral-numeral}
 use Rattle.site_laws.proofs.Words.{same_words}
@@ -73,7 +73,7 @@ line_from ws n =
 abbrev decode : List (List ℕ) → DocLine
 decode ws = line_from ws (sum_at ws 0)
 
-decode_act : (act : RawAct) → decode (spelling (ActLine act)) ≡ ActLine act
+decode_act : (act : RawAct) → decode (line_spelling (ActLine act)) ≡ ActLine act
 decode_act (ASplit a) = ap (λ z. ActLine (ASplit z)) (read-spelled a)
 decode_act AStop = refl
 decode_act AFull = refl
@@ -84,13 +84,13 @@ decode_act (ADeadLoop p) = ap (λ z. ActLine (ADeadLoop z)) (read-spelled p)
 decode_act (ADeadPower p) = ap (λ z. ActLine (ADeadPower z)) (read-spelled p)
 decode_act ADeadCeiling = refl
 
-decode_claim : (claim : RawClaim) → decode (spelling (ClaimLine claim)) ≡ ClaimLine claim
+decode_claim : (claim : RawClaim) → decode (line_spelling (ClaimLine claim)) ≡ ClaimLine claim
 decode_claim (AnOptimal c) = ap (λ z. ClaimLine (AnOptimal z)) (read-spelled c)
 decode_claim (AGap c b) = ap (λ z. ClaimLine (AGap z (read (spelled b)))) (read-spelled c) ∙ ap (λ z. ClaimLine (AGap c z)) (read-spelled b)
 decode_claim (AnOpen b name) = ap (λ z. ClaimLine (AnOpen z name)) (read-spelled b)
 decode_claim AnInfeasible = refl
 
-decode-spelling : (l : DocLine) → decode (spelling l) ≡ l
+decode-spelling : (l : DocLine) → decode (line_spelling l) ≡ l
 decode-spelling (BudgetLine n) = ap BudgetLine (read-spelled n)
 decode-spelling (RowLine kind members) = ap (λ k. RowLine k (map read (map spelled members))) (kind-read kind) ∙ ap (RowLine kind) (all_read members)
 decode-spelling (WorkLine v k) = ap (λ z. WorkLine z (read (spelled k))) (read-spelled v) ∙ ap (WorkLine v) (read-spelled k)
@@ -103,7 +103,7 @@ decode-spelling EndLine = refl
 
 -- ---- so one line has one list of words
 -- a line has words
-act_some : (act : RawAct) → spelling (ActLine act) ≢ []
+act_some : (act : RawAct) → line_spelling (ActLine act) ≢ []
 act_some (ASplit a) e = cc
 act_some AStop e = cc
 act_some AFull e = cc
@@ -114,13 +114,13 @@ act_some (ADeadLoop p) e = cc
 act_some (ADeadPower p) e = cc
 act_some ADeadCeiling e = cc
 
-claim_some : (claim : RawClaim) → spelling (ClaimLine claim) ≢ []
+claim_some : (claim : RawClaim) → line_spelling (ClaimLine claim) ≢ []
 claim_some (AnOptimal c) e = cc
 claim_some (AGap c b) e = cc
 claim_some (AnOpen b name) e = cc
 claim_some AnInfeasible e = cc
 
-pub line-some : (l : DocLine) → spelling l ≢ []
+pub line-some : (l : DocLine) → line_spelling l ≢ []
 line-some (BudgetLine n) e = cc
 line-some (RowLine kind members) e = cc
 line-some (WorkLine v k) e = cc
@@ -134,5 +134,5 @@ line-some EndLine e = cc
 -- a text spells one line
 pub line-same : (text : List ℕ) (l other : DocLine) → IsSpelled text l → IsSpelled text other → l ≡ other
 line-same text l other h k =
-    let same : spelling l ≡ spelling other = same_words (spelling l) (spelling other) (line-some l) (line-some other) h.are_words k.are_words (sym h.text_is ∙ k.text_is) in
+    let same : line_spelling l ≡ line_spelling other = same_words (line_spelling l) (line_spelling other) (line-some l) (line-some other) h.are_words k.are_words (sym h.text_is ∙ k.text_is) in
     sym (decode-spelling l) ∙ ap decode same ∙ decode-spelling other

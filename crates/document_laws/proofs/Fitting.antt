@@ -18,7 +18,7 @@ use Rattle.cable_definitions.specs.Arcs.{AreArcs}
 use Rattle.cable_definitions.specs.Items.{within, IsWithin}
 use Rattle.cable_definitions.specs.Row.{Row, InRange, IsWellFormed, member_count}
 use Rattle.cable_definitions.specs.Text.{name_of, name_from}
-use Rattle.cable_definitions.specs.Tree.{Kept, Node, marks_of, used_cables, IsDead, IsActed}
+use Rattle.cable_definitions.specs.Tree.{ProofState, Node, marks_of, used_cables, IsDead, IsActed}
 use Rattle.cable_definitions.specs.Refusal.{member_field}
 use Rattle.cable_definitions.proofs.Lists.{listed_out}
 use Rattle.proof_laws.proofs.Lists.{all_from}
@@ -76,7 +76,7 @@ members-within s arcs kind (m ∷ ms) valid are h =
     (members-within s arcs kind ms valid are (All-tail (λ k. k < member_count s arcs kind) m ms h))
 
 -- ---- acts
-dead_fits : (s : Site) (arcs : List Arc) (kept : Kept) (v bound : ℕ) (why : Why) → IsValid s → AreArcs s arcs → length kept.rows ≤ 16384
+dead_fits : (s : Site) (arcs : List Arc) (kept : ProofState) (v bound : ℕ) (why : Why) → IsValid s → AreArcs s arcs → length kept.rows ≤ 16384
     → IsDead s arcs kept.rows (marks_of arcs kept.nodes v) bound why → FitsAct (Dead why)
 dead_fits s arcs kept v bound (RowWhy r) valid are rows h = let l = slice_get_within kept.rows r h.0 h.1 in omega (arith, l, rows)
 dead_fits s arcs kept v bound (Pair a b) valid are rows h =
@@ -92,7 +92,7 @@ dead_fits s arcs kept v bound (Loop p) valid are rows h =
 dead_fits s arcs kept v bound (PowerWhy p) valid are rows h = point-below s valid p (within-substation s p h.0)
 dead_fits s arcs kept v bound Ceiling valid are rows h = tt
 
-pub act-fits : (s : Site) (arcs : List Arc) (kept : Kept) (v : ℕ) (node : Node) (value : ℤ) (act : Act) (nodes : List Node) → IsValid s → AreArcs s arcs → length kept.rows ≤ 16384
+pub act-fits : (s : Site) (arcs : List Arc) (kept : ProofState) (v : ℕ) (node : Node) (value : ℤ) (act : Act) (nodes : List Node) → IsValid s → AreArcs s arcs → length kept.rows ≤ 16384
     → IsActed s arcs kept v node value act nodes → FitsAct act
 act-fits s arcs kept v node value (Split a) nodes valid are rows h =
     let most = arcs-most s arcs valid are in

@@ -9,7 +9,7 @@ use Rattle.cable_definitions.specs.declared.claim.Claim.{Claim}
 use Rattle.cable_definitions.specs.declared.claim.Claim.TheVariants.{Partial}
 use Rattle.cable_definitions.specs.declared.site.Point.{Point}
 use Rattle.cable_definitions.specs.Site.{Site, IsValid}
-use Rattle.cable_definitions.specs.Tree.{RowItem, WorkItem, Kept, Accepts}
+use Rattle.cable_definitions.specs.Tree.{RowItem, WorkItem, ProofState, Accepts}
 use Rattle.cable_definitions.specs.Text.{name_of, name_from}
 use Rattle.cable_definitions.specs.Refusal.{RawClaim, AnOptimal, AGap, AnOpen, AnInfeasible, DocLine, BudgetLine, RowLine, WorkLine, WeightLine, ActLine, LayoutLine, CableLine, ClaimLine, EndLine, AtItem, AtWeights, Reader, IsCableOf, IsClaimOf, row_from, act_from, after_cable, GoesOn}
 use Rattle.proof_laws.proofs.FullLemma.{within-turbine}
@@ -61,14 +61,14 @@ same_weights v w xs ys e = cc
 pub goes-same : (s : Site) → IsValid s → (arcs : List Arc) (r : Reader) (l : DocLine) (next other : Reader) → GoesOn s arcs r l next → GoesOn s arcs r l other → next ≡ other
 goes-same s valid arcs r (BudgetLine n) next other h k = h ∙ sym k
 goes-same s valid arcs r (RowLine kind members) next other (kept, a, e) (new, b, f) =
-    e ∙ ap (λ (held : Kept). record r { kept = held }) (accept-same s arcs r.budget r.kept (RowItem (row_from kind members)) kept new a b) ∙ sym f
+    e ∙ ap (λ (held : ProofState). record r { kept = held }) (accept-same s arcs r.budget r.kept (RowItem (row_from kind members)) kept new a b) ∙ sym f
 goes-same s valid arcs r (WorkLine v k) next other h g = h ∙ sym g
 goes-same s valid arcs r (WeightLine row w) next other h k = h ∙ sym k
 goes-same s valid arcs r (ActLine act) next other (v, weights, kept, at, a, e) (w, others, new, there, b, f) =
     let one = sym at ∙ there in
     let moved = subst (λ (u : ℕ). Accepts s arcs r.budget r.kept (WorkItem u weights (act_from act)) kept) (same_node v w weights others one) a in
     let here = subst (λ (ws : List (ℕ × ℤ)). Accepts s arcs r.budget r.kept (WorkItem w ws (act_from act)) kept) (same_weights v w weights others one) moved in
-    e ∙ ap (λ (held : Kept). record r { phase = AtItem; kept = held }) (accept-same s arcs r.budget r.kept (WorkItem w others (act_from act)) kept new here b) ∙ sym f
+    e ∙ ap (λ (held : ProofState). record r { phase = AtItem; kept = held }) (accept-same s arcs r.budget r.kept (WorkItem w others (act_from act)) kept new here b) ∙ sym f
 goes-same s valid arcs r (LayoutLine k) next other h g = h ∙ sym g
 goes-same s valid arcs r (CableLine a b t) next other (c, h, e) (d, k, f) =
     e ∙ ap (λ (x : Cable). record r { phase = after_cable r.phase; cables = r.cables ++ x ∷ [] }) (cable-same s valid r a b t c d h k) ∙ sym f

@@ -7,7 +7,7 @@ use Rattle.cable_definitions.specs.Site.{Site}
 use Rattle.cable_definitions.specs.Arcs.{AreArcs}
 use Rattle.cable_definitions.specs.Document.{IsSiteAtFront}
 use Rattle.cable_definitions.specs.Text.{site_lines, line_count}
-use Rattle.cable_definitions.specs.Refusal.{Phase, AtJudged, Reader, reader_at, ReadsLines, IsRefusedAfter, IsRefusedBehind, IsJudged}
+use Rattle.cable_definitions.specs.Refusal.{Phase, AtJudged, Reader, reader_at, ReadsLines, IsRefusedAfter, IsRefusedBehind, IsSiteWithCables}
 use Rattle.document_laws.proofs.ArcsOnce.{arcs-same}
 use Rattle.site_laws.proofs.Fronts.{one_in_front}
 use Rattle.document_laws.proofs.Refused.{SameRefusal, stop-same, stops-empty, after-same, whole-stands}
@@ -30,7 +30,7 @@ behind-same start bytes base line there cause other h k =
     (behind-at h.site h.arcs start bytes h.rest base there other h.front h.are_arcs k)
 
 -- what is judged isn't refused
-pub judged-stands : (bytes : List ℕ) (s : Site) (cables : List Cable) (base line : ℕ) (cause : Cause) → IsJudged bytes s cables → IsRefusedBehind AtJudged bytes base line cause → ⊥
+pub judged-stands : (bytes : List ℕ) (s : Site) (cables : List Cable) (base line : ℕ) (cause : Cause) → IsSiteWithCables bytes s cables → IsRefusedBehind AtJudged bytes base line cause → ⊥
 judged-stands bytes s cables base line cause h k =
     whole-stands s h.arcs h.front.valid AtJudged h.rest h.read_lines h.reader (base + line_count (site_lines s)) line cause h.reads h.at_end
     (behind-at s h.arcs AtJudged bytes h.rest base line cause h.front h.are_arcs k)
@@ -40,7 +40,7 @@ pub record SameJudged (s t : Site) (cables others : List Cable) : Type 0 where
   pub sites : s ≡ t
   pub lists : cables ≡ others
 
-pub judged-same : (bytes : List ℕ) (s t : Site) (cables others : List Cable) → IsJudged bytes s cables → IsJudged bytes t others → SameJudged s t cables others
+pub judged-same : (bytes : List ℕ) (s t : Site) (cables others : List Cable) → IsSiteWithCables bytes s cables → IsSiteWithCables bytes t others → SameJudged s t cables others
 judged-same bytes s t cables others h k =
     let same = one_in_front bytes h.rest k.rest s t h.front k.front in
     let there = subst (λ (u : Site). AreArcs u h.arcs) same.0 h.are_arcs in

@@ -21,8 +21,8 @@ use Rattle.cable_definitions.specs.Items.{within}
 use Rattle.cable_definitions.specs.Numeral.{numeral, spelling as spelled}
 use Rattle.cable_definitions.specs.Row.{Row, SomeMember, RightCount}
 use Rattle.cable_definitions.specs.Text.{number, words, line, kind_word, row_line, weight_line, act_line, item_lines, cable_line, claim_line, name_of, site_lines, document_text}
-use Rattle.cable_definitions.specs.Tree.{Item, RowItem, WorkItem, Kept, nothing_kept, IsAccepted, IsListed, IsWorked, Accepts, Leads, LayoutAgrees, Agrees}
-use Rattle.cable_definitions.specs.Refusal.{RawClaim, BudgetLine, RowLine, WorkLine, WeightLine, ActLine, LayoutLine, CableLine, ClaimLine, EndLine, spelling, Phase, AtBudget, AtItem, AtWeights, AtCables, AtLast, Past, Reader, reader_at, is_built_verdict, IsCableOf, IsClaimOf, row_from, act_from, IsRowRefused, IsWorkRefused, IsClaimRefused}
+use Rattle.cable_definitions.specs.Tree.{Item, RowItem, WorkItem, ProofState, empty_state, IsAccepted, IsListed, IsWorked, Accepts, Leads, LayoutAgrees, Agrees}
+use Rattle.cable_definitions.specs.Refusal.{RawClaim, BudgetLine, RowLine, WorkLine, WeightLine, ActLine, LayoutLine, CableLine, ClaimLine, EndLine, line_spelling, Phase, AtBudget, AtItem, AtWeights, AtCables, AtLast, Past, Reader, reader_at, is_built_verdict, IsCableOf, IsClaimOf, row_from, act_from, IsRowRefused, IsWorkRefused, IsClaimRefused}
 use Rattle.proof_laws.proofs.Lists.{all_from}
 use Rattle.proof_laws.proofs.FullLemma.{within-turbine}
 use Rattle.document_laws.proofs.ArcsOnce.{pairs-head, pairs-tail}
@@ -34,7 +34,7 @@ use Rattle.document_laws.proofs.Fitting.{point-named, members-below, members-sma
 use Rattle.document_laws.proofs.CanRead.{CanRead, first-line, ReadsAll, reads-first}
 
 -- a reader behind the budget
-abbrev pub state : Phase → ℕ → Kept → List Cable → Reader
+abbrev pub state : Phase → ℕ → ProofState → List Cable → Reader
 state phase n kept cables = record { phase = phase; budget = n; kept = kept; cables = cables }
 
 -- few short words make a short text
@@ -43,12 +43,12 @@ few_words ws h few = let l = short-text 24 ws h in omega (arith, l, few)
 
 -- ---- the claim
 -- the last line
-can_end : (s : Site) (arcs : List CandidateArc) (n : ℕ) (kept : Kept) (cables : List Cable) → CanRead s arcs (state AtLast n kept cables) EndLine (state Past n kept cables)
+can_end : (s : Site) (arcs : List CandidateArc) (n : ℕ) (kept : ProofState) (cables : List Cable) → CanRead s arcs (state AtLast n kept cables) EndLine (state Past n kept cables)
 can_end s arcs n kept cables =
     let shorts = two-short 24 (codes "end") (codes "document") (key (codes "end") refl (lit≤ tt) (lit≤ tt)) (key (codes "document") refl (lit≤ tt) (lit≤ tt)) in
     record {
-      are_words = short-words 24 (spelling EndLine) shorts;
-      short = few_words (spelling EndLine) shorts (lit≤ tt);
+      are_words = short-words 24 (line_spelling EndLine) shorts;
+      short = few_words (line_spelling EndLine) shorts (lit≤ tt);
       members = tt;
       allowed = refl;
       within = (no_field, tt);
@@ -75,13 +75,13 @@ claim_of s cables (Gap c b) h = refl
 claim_of s cables (Partial b stuck) h = (stuck, h.turbine_is, refl, refl)
 claim_of s cables Infeasible h = refl
 
-can_claim : (s : Site) (arcs : List CandidateArc) (n : ℕ) (kept : Kept) (cables : List Cable) (claim : Claim) → IsValid s → IsClaimInRange claim → IsBuiltClaim claim → Agrees s n kept cables claim
+can_claim : (s : Site) (arcs : List CandidateArc) (n : ℕ) (kept : ProofState) (cables : List Cable) (claim : Claim) → IsValid s → IsClaimInRange claim → IsBuiltClaim claim → Agrees s n kept cables claim
     → CanRead s arcs (state (AtCables 0) n kept cables) (ClaimLine (raw_claim s claim)) (state AtLast n kept cables)
 can_claim s arcs n kept cables claim valid range built agrees =
     let w = claim-written s claim range (claim_named s cables claim valid agrees.0) in
     record {
-      are_words = short-words 24 (spelling (ClaimLine (raw_claim s claim))) w.shorts;
-      short = few_words (spelling (ClaimLine (raw_claim s claim))) w.shorts w.few;
+      are_words = short-words 24 (line_spelling (ClaimLine (raw_claim s claim))) w.shorts;
+      short = few_words (line_spelling (ClaimLine (raw_claim s claim))) w.shorts w.few;
       members = tt;
       allowed = verdict_built s claim built;
       within = (w.fields, tt);
@@ -95,7 +95,7 @@ can_claim s arcs n kept cables claim valid range built agrees =
 abbrev pub end_line : List ℕ
 end_line = line (codes "end" ∷ codes "document" ∷ [])
 
-reads_claim : (s : Site) (arcs : List CandidateArc) (n : ℕ) (kept : Kept) (cables : List Cable) (claim : Claim) → IsValid s → IsClaimInRange claim → IsBuiltClaim claim → Agrees s n kept cables claim
+reads_claim : (s : Site) (arcs : List CandidateArc) (n : ℕ) (kept : ProofState) (cables : List Cable) (claim : Claim) → IsValid s → IsClaimInRange claim → IsBuiltClaim claim → Agrees s n kept cables claim
     → ReadsAll s arcs (state (AtCables 0) n kept cables) (claim_line s claim ++ end_line) (raw_claim s claim)
 reads_claim s arcs n kept cables claim valid range built agrees =
     let w = claim-written s claim range (claim_named s cables claim valid agrees.0) in
@@ -117,7 +117,7 @@ pub record IsOfSite (s : Site) (c : Cable) : Type 0 where
   pub to : c.to < length s.points
   pub grade : c.grade < length s.types
 
-can_cable : (s : Site) (arcs : List CandidateArc) (n : ℕ) (kept : Kept) (done : List Cable) (c : Cable) (more : ℕ) → IsValid s → IsOfSite s c → All (λ d. d.from < c.from) done
+can_cable : (s : Site) (arcs : List CandidateArc) (n : ℕ) (kept : ProofState) (done : List Cable) (c : Cable) (more : ℕ) → IsValid s → IsOfSite s c → All (λ d. d.from < c.from) done
     → CanRead s arcs (state (AtCables (suc more)) n kept done) (CableLine (name_of s c.from) (name_of s c.to) (pos c.grade)) (state (AtCables more) n kept (done ++ c ∷ []))
 can_cable s arcs n kept done c more valid of_site before =
     let types = valid.types_count in
@@ -138,7 +138,7 @@ can_cable s arcs n kept done c more valid of_site before =
       goes_on = (c, named, ap (λ (k : ℕ). state (AtCables k) n kept (done ++ c ∷ [])) (let e : more ≡ suc more - 1 = omega arith in e));
     }
 
-cable_written : (s : Site) (c : Cable) → IsValid s → IsOfSite s c → cable_line s c ≡ line (spelling (CableLine (name_of s c.from) (name_of s c.to) (pos c.grade)))
+cable_written : (s : Site) (c : Cable) → IsValid s → IsOfSite s c → cable_line s c ≡ line (line_spelling (CableLine (name_of s c.from) (name_of s c.to) (pos c.grade)))
 cable_written s c valid of_site =
     let types = valid.types_count in
     let small : c.grade < 2 ^ 64 = let l = of_site.grade in omega (arith, l, types) in
@@ -148,7 +148,7 @@ cable_written s c valid of_site =
 in_front : (text own rest after : List ℕ) → text ≡ own → (text ++ rest) ++ after ≡ own ++ (rest ++ after)
 in_front text own rest after e = append_assoc text rest after ∙ ap (λ (bytes : List ℕ). bytes ++ (rest ++ after)) e
 
-reads_cables : (s : Site) (arcs : List CandidateArc) (n : ℕ) (kept : Kept) (done cables whole : List Cable) (after : List ℕ) (raw : RawClaim) → IsValid s → done ++ cables ≡ whole
+reads_cables : (s : Site) (arcs : List CandidateArc) (n : ℕ) (kept : ProofState) (done cables whole : List Cable) (after : List ℕ) (raw : RawClaim) → IsValid s → done ++ cables ≡ whole
     → All (IsOfSite s) cables → AllPairs (λ c d. c.from < d.from) cables → All (λ c. All (λ d. d.from < c.from) done) cables
     → ReadsAll s arcs (state (AtCables 0) n kept whole) after raw → ReadsAll s arcs (state (AtCables (length cables)) n kept done) (concat (map (cable_line s) cables) ++ after) raw
 reads_cables s arcs n kept done [] whole after raw valid e of_site order before rest =
@@ -163,11 +163,11 @@ reads_cables s arcs n kept done (c ∷ cables) whole after raw valid e of_site o
     reads-first s arcs (state (AtCables (suc (length cables))) n kept done) (state (AtCables (length cables)) n kept (done ++ c ∷ [])) (CableLine (name_of s c.from) (name_of s c.to) (pos c.grade))
     (concat (map (cable_line s) (c ∷ cables)) ++ after) (concat (map (cable_line s) cables) ++ after) raw
     (can_cable s arcs n kept done c (length cables) valid own first)
-    (in_front (cable_line s c) (line (spelling (CableLine (name_of s c.from) (name_of s c.to) (pos c.grade)))) (concat (map (cable_line s) cables)) after (cable_written s c valid own))
+    (in_front (cable_line s c) (line (line_spelling (CableLine (name_of s c.from) (name_of s c.to) (pos c.grade)))) (concat (map (cable_line s) cables)) after (cable_written s c valid own))
     (reads_cables s arcs n kept (done ++ c ∷ []) cables whole after raw valid (append_assoc done (c ∷ []) cables ∙ e) (All-tail (IsOfSite s) c cables of_site) (pairs-tail (λ (x d : Cable). x.from < d.from) c cables order) later rest)
 
 -- ---- the layout
-can_layout : (s : Site) (arcs : List CandidateArc) (n k : ℕ) (kept : Kept) → k ≤ 256 → CanRead s arcs (state AtItem n kept []) (LayoutLine (pos k)) (state (AtCables k) n kept [])
+can_layout : (s : Site) (arcs : List CandidateArc) (n k : ℕ) (kept : ProofState) → k ≤ 256 → CanRead s arcs (state AtItem n kept []) (LayoutLine (pos k)) (state (AtCables k) n kept [])
 can_layout s arcs n k kept most =
     let small : k < 2 ^ 64 = omega (arith, most) in
     let shorts = two-short 24 (codes "layout") (numeral k) (key (codes "layout") refl (lit≤ tt) (lit≤ tt)) (short-number k small) in
@@ -183,7 +183,7 @@ can_layout s arcs n k kept most =
     }
 
 -- ---- rows
-can_row : (s : Site) (arcs : List CandidateArc) (n : ℕ) (kept new : Kept) (row : Row) → IsValid s → AreArcs s arcs → IsTrue (is_built_kind row.kind) → IsListed s arcs kept row new
+can_row : (s : Site) (arcs : List CandidateArc) (n : ℕ) (kept new : ProofState) (row : Row) → IsValid s → AreArcs s arcs → IsTrue (is_built_kind row.kind) → IsListed s arcs kept row new
     → CanRead s arcs (state AtItem n kept []) (RowLine row.kind (map pos row.members)) (state AtItem n new [])
 can_row s arcs n kept new row valid are built listed =
     let below = members-below s arcs row listed.well_formed in
@@ -213,11 +213,11 @@ can_row s arcs n kept new row valid are built listed =
     some_members [] h = absurd (h refl)
     some_members (m ∷ ms) h = omega arith
 
-row_written : (s : Site) (arcs : List CandidateArc) (row : Row) → IsValid s → AreArcs s arcs → All (λ m. m < 65280) row.members → row_line row ≡ line (spelling (RowLine row.kind (map pos row.members)))
+row_written : (s : Site) (arcs : List CandidateArc) (row : Row) → IsValid s → AreArcs s arcs → All (λ m. m < 65280) row.members → row_line row ≡ line (line_spelling (RowLine row.kind (map pos row.members)))
 row_written s arcs row valid are below = ap (λ (ws : List (List ℕ)). line (codes "row" ∷ kind_word row.kind ∷ ws)) (members-written row.members below)
 
 -- ---- works
-can_work : (s : Site) (arcs : List CandidateArc) (n v k : ℕ) (kept : Kept) → 1 ≤ v → v ≤ 100001 → k ≤ most_weights → k ≤ 1024
+can_work : (s : Site) (arcs : List CandidateArc) (n v k : ℕ) (kept : ProofState) → 1 ≤ v → v ≤ 100001 → k ≤ most_weights → k ≤ 1024
     → CanRead s arcs (state AtItem n kept []) (WorkLine (pos v) (pos k)) (state (AtWeights v k []) n kept [])
 can_work s arcs n v k kept some most few weights =
     let small : v < 2 ^ 64 = omega (arith, most) in
@@ -239,7 +239,7 @@ record IsWeight (w : ℕ × ℤ) : Type 0 where
   row : w.0 < 16384
   small : unsigned_abs w.1 ≤ 2 ^ 76
 
-can_weight : (s : Site) (arcs : List CandidateArc) (n v more : ℕ) (kept : Kept) (done : List (ℕ × ℤ)) (w : ℕ × ℤ) → IsWeight w
+can_weight : (s : Site) (arcs : List CandidateArc) (n v more : ℕ) (kept : ProofState) (done : List (ℕ × ℤ)) (w : ℕ × ℤ) → IsWeight w
     → CanRead s arcs (state (AtWeights v (suc more) done) n kept []) (WeightLine (pos w.0) w.1) (state (AtWeights v more (done ++ w ∷ [])) n kept [])
 can_weight s arcs n v more kept done w fits =
     let row = fits.row in
@@ -260,13 +260,13 @@ can_weight s arcs n v more kept done w fits =
       goes_on = ap (λ (k : ℕ). state (AtWeights v k (done ++ w ∷ [])) n kept []) (let e : more ≡ suc more - 1 = omega arith in e);
     }
 
-weight_written : (w : ℕ × ℤ) → IsWeight w → weight_line w ≡ line (spelling (WeightLine (pos w.0) w.1))
+weight_written : (w : ℕ × ℤ) → IsWeight w → weight_line w ≡ line (line_spelling (WeightLine (pos w.0) w.1))
 weight_written w fits =
     let row = fits.row in
     let small : w.0 < 2 ^ 64 = omega (arith, row) in
     ap (λ (u : List ℕ). line (codes "by" ∷ u ∷ number w.1 ∷ [])) (written w.0 small) ∙ ap (λ (u : List ℕ). line (codes "by" ∷ numeral w.0 ∷ u ∷ [])) (weight-written w.1 fits.small)
 
-reads_weights : (s : Site) (arcs : List CandidateArc) (n v : ℕ) (kept : Kept) (done weights whole : List (ℕ × ℤ)) (after : List ℕ) (raw : RawClaim) → done ++ weights ≡ whole → All IsWeight weights
+reads_weights : (s : Site) (arcs : List CandidateArc) (n v : ℕ) (kept : ProofState) (done weights whole : List (ℕ × ℤ)) (after : List ℕ) (raw : RawClaim) → done ++ weights ≡ whole → All IsWeight weights
     → ReadsAll s arcs (state (AtWeights v 0 whole) n kept []) after raw → ReadsAll s arcs (state (AtWeights v (length weights) done) n kept []) (concat (map weight_line weights) ++ after) raw
 reads_weights s arcs n v kept done [] whole after raw e fits rest =
     subst (λ (ws : List (ℕ × ℤ)). ReadsAll s arcs (state (AtWeights v 0 ws) n kept []) after raw) (sym e ∙ append-nil done) rest
@@ -274,16 +274,16 @@ reads_weights s arcs n v kept done (w ∷ weights) whole after raw e fits rest =
     let own = All-head IsWeight w weights fits in
     reads-first s arcs (state (AtWeights v (suc (length weights)) done) n kept []) (state (AtWeights v (length weights) (done ++ w ∷ [])) n kept []) (WeightLine (pos w.0) w.1)
     (concat (map weight_line (w ∷ weights)) ++ after) (concat (map weight_line weights) ++ after) raw (can_weight s arcs n v (length weights) kept done w own)
-    (in_front (weight_line w) (line (spelling (WeightLine (pos w.0) w.1))) (concat (map weight_line weights)) after (weight_written w own))
+    (in_front (weight_line w) (line (line_spelling (WeightLine (pos w.0) w.1))) (concat (map weight_line weights)) after (weight_written w own))
     (reads_weights s arcs n v kept (done ++ w ∷ []) weights whole after raw (append_assoc done (w ∷ []) weights ∙ e) (All-tail IsWeight w weights fits) rest)
 
-can_act : (s : Site) (arcs : List CandidateArc) (n v : ℕ) (kept new : Kept) (weights : List (ℕ × ℤ)) (act : Act) → IsValid s → AreArcs s arcs → length kept.rows ≤ 16384 → IsWorked s arcs n kept v weights act new
+can_act : (s : Site) (arcs : List CandidateArc) (n v : ℕ) (kept new : ProofState) (weights : List (ℕ × ℤ)) (act : Act) → IsValid s → AreArcs s arcs → length kept.rows ≤ 16384 → IsWorked s arcs n kept v weights act new
     → CanRead s arcs (state (AtWeights v 0 weights) n kept []) (ActLine (raw_act act)) (state AtItem n new [])
 can_act s arcs n v kept new weights act valid are rows worked =
     let w = act-written act (act-fits s arcs kept v worked.node worked.value act new.nodes valid are rows worked.acted) in
     record {
-      are_words = short-words 24 (spelling (ActLine (raw_act act))) w.shorts;
-      short = few_words (spelling (ActLine (raw_act act))) w.shorts w.few;
+      are_words = short-words 24 (line_spelling (ActLine (raw_act act))) w.shorts;
+      short = few_words (line_spelling (ActLine (raw_act act))) w.shorts w.few;
       members = tt;
       allowed = refl;
       within = (w.fields, tt);
@@ -296,20 +296,20 @@ can_act s arcs n v kept new weights act valid are rows worked =
       goes_on = (v, weights, new, refl, subst (λ (a : Act). Accepts s arcs n kept (WorkItem v weights a) new) (sym (raw_act-read act)) worked, refl);
     }
 
-weights_fit : (s : Site) (arcs : List CandidateArc) (n : ℕ) (kept new : Kept) (v : ℕ) (weights : List (ℕ × ℤ)) (act : Act) → length kept.rows ≤ 16384 → IsWorked s arcs n kept v weights act new → All IsWeight weights
+weights_fit : (s : Site) (arcs : List CandidateArc) (n : ℕ) (kept new : ProofState) (v : ℕ) (weights : List (ℕ × ℤ)) (act : Act) → length kept.rows ≤ 16384 → IsWorked s arcs n kept v weights act new → All IsWeight weights
 weights_fit s arcs n kept new v weights act rows worked k d l =
     let listed = worked.lawful.listed k d l in
     record { row = omega (arith, listed, rows); small = worked.lawful.small k d l }
 
 -- ---- items
-reads_items : (s : Site) (arcs : List CandidateArc) (n : ℕ) (items : List Item) (old kept : Kept) (after : List ℕ) (raw : RawClaim) → IsValid s → AreArcs s arcs → n ≤ 50000 → IsCounted n old
+reads_items : (s : Site) (arcs : List CandidateArc) (n : ℕ) (items : List Item) (old kept : ProofState) (after : List ℕ) (raw : RawClaim) → IsValid s → AreArcs s arcs → n ≤ 50000 → IsCounted n old
     → Leads s arcs n old items kept → All IsBuiltItem items → ReadsAll s arcs (state AtItem n kept []) after raw → ReadsAll s arcs (state AtItem n old []) (concat (map item_lines items) ++ after) raw
-reads_items s arcs n [] old kept after raw valid are most counted leads built rest = subst (λ (k : Kept). ReadsAll s arcs (state AtItem n k []) after raw) leads rest
+reads_items s arcs n [] old kept after raw valid are most counted leads built rest = subst (λ (k : ProofState). ReadsAll s arcs (state AtItem n k []) after raw) leads rest
 reads_items s arcs n (RowItem row ∷ items) old kept after raw valid are most counted leads built rest =
     let small = members-small s arcs row.kind row.members valid are (members-below s arcs row leads.1.well_formed) in
     reads-first s arcs (state AtItem n old []) (state AtItem n leads.0 []) (RowLine row.kind (map pos row.members)) (concat (map item_lines (RowItem row ∷ items)) ++ after) (concat (map item_lines items) ++ after) raw
     (can_row s arcs n old leads.0 row valid are (All-head IsBuiltItem (RowItem row) items built) leads.1)
-    (in_front (row_line row) (line (spelling (RowLine row.kind (map pos row.members)))) (concat (map item_lines items)) after (row_written s arcs row valid are small))
+    (in_front (row_line row) (line (line_spelling (RowLine row.kind (map pos row.members)))) (concat (map item_lines items)) after (row_written s arcs row valid are small))
     (reads_items s arcs n items leads.0 kept after raw valid are most (counted-accepts s arcs n old (RowItem row) leads.0 counted leads.1) leads.2 (All-tail IsBuiltItem (RowItem row) items built) rest)
 reads_items s arcs n (WorkItem v weights act ∷ items) old kept after raw valid are most counted leads built rest =
     let worked = leads.1 in
@@ -322,7 +322,7 @@ reads_items s arcs n (WorkItem v weights act ∷ items) old kept after raw valid
     let further = concat (map item_lines items) ++ after in
     let small : v < 2 ^ 64 = omega (arith, upper) in
     let little : length weights < 2 ^ 64 = let l = worked.weights_count in omega (arith, l) in
-    let head : line (codes "work" ∷ decimal v ∷ decimal (length weights) ∷ []) ≡ line (spelling (WorkLine (pos v) (pos (length weights)))) =
+    let head : line (codes "work" ∷ decimal v ∷ decimal (length weights) ∷ []) ≡ line (line_spelling (WorkLine (pos v) (pos (length weights)))) =
     ap (λ (u : List ℕ). line (codes "work" ∷ u ∷ decimal (length weights) ∷ [])) (written v small) ∙ ap (λ (u : List ℕ). line (codes "work" ∷ numeral v ∷ u ∷ [])) (written (length weights) little) in
     let act_part = reads-first s arcs (state (AtWeights v 0 weights) n old []) (state AtItem n leads.0 []) (ActLine (raw_act act)) (act_line act ++ further) further raw
     (can_act s arcs n v old leads.0 weights act valid are rows worked) (ap (λ (bytes : List ℕ). bytes ++ further) w.text)
@@ -331,14 +331,14 @@ reads_items s arcs n (WorkItem v weights act ∷ items) old kept after raw valid
     reads-first s arcs (state AtItem n old []) (state (AtWeights v (length weights) []) n old []) (WorkLine (pos v) (pos (length weights))) (concat (map item_lines (WorkItem v weights act ∷ items)) ++ after)
     (concat (map weight_line weights) ++ (act_line act ++ further)) raw
     (can_work s arcs n v (length weights) old made.some upper (All-head IsBuiltItem (WorkItem v weights act) items built) worked.weights_count)
-    (parts (line (codes "work" ∷ decimal v ∷ decimal (length weights) ∷ [])) (line (spelling (WorkLine (pos v) (pos (length weights))))) (concat (map weight_line weights)) (act_line act) (concat (map item_lines items)) after head)
+    (parts (line (codes "work" ∷ decimal v ∷ decimal (length weights) ∷ [])) (line (line_spelling (WorkLine (pos v) (pos (length weights))))) (concat (map weight_line weights)) (act_line act) (concat (map item_lines items)) after head)
     weight_part
   where
     parts : (first own ws a others more : List ℕ) → first ≡ own → (first ++ ws ++ a ++ others) ++ more ≡ own ++ (ws ++ (a ++ (others ++ more)))
     parts first own ws a others more e = simp append_assoc (ap (λ (bytes : List ℕ). bytes ++ (ws ++ (a ++ (others ++ more)))) e)
 
 -- ---- the document
-can_budget : (s : Site) (arcs : List CandidateArc) (n : ℕ) → IsBudget n → CanRead s arcs (reader_at AtBudget) (BudgetLine (pos n)) (state AtItem n nothing_kept [])
+can_budget : (s : Site) (arcs : List CandidateArc) (n : ℕ) → IsBudget n → CanRead s arcs (reader_at AtBudget) (BudgetLine (pos n)) (state AtItem n empty_state [])
 can_budget s arcs n budget =
     let low = budget.0 in
     let high = budget.1 in
@@ -376,7 +376,7 @@ document_parts s n items cables claim =
     parts : (a b c d e f g : List ℕ) → a ++ b ++ c ++ d ++ e ++ f ++ g ≡ a ++ (b ++ (c ++ (d ++ (e ++ (f ++ g)))))
     parts a b c d e f g = simp append_assoc
 
-pub document-read : (s : Site) (arcs : List CandidateArc) (n : ℕ) (items : List Item) (kept : Kept) (cables : List Cable) (claim : Claim) → IsValid s → AreArcs s arcs → IsBudget n
+pub document-read : (s : Site) (arcs : List CandidateArc) (n : ℕ) (items : List Item) (kept : ProofState) (cables : List Cable) (claim : Claim) → IsValid s → AreArcs s arcs → IsBudget n
     → IsAccepted s arcs n items kept → AreBuilt items claim → AllPairs (λ c d. c.from < d.from) cables → IsClaimInRange claim → Agrees s n kept cables claim
     → ReadsAll s arcs (reader_at AtBudget) (behind_site s n items cables claim) (raw_claim s claim)
 document-read s arcs n items kept cables claim valid are budget accepted built order range agrees =
@@ -394,6 +394,6 @@ document-read s arcs n items kept cables claim valid are budget accepted built o
     let cable_part = reads_cables s arcs n kept [] cables cables verdict (raw_claim s claim) valid refl own order (λ k d l. All-nil (λ (c : Cable). c.from < (get_or cables k d).from)) claim_part in
     let layout_part = reads-first s arcs (state AtItem n kept []) (state (AtCables (length cables)) n kept []) (LayoutLine (pos (length cables))) layout listed (raw_claim s claim) (can_layout s arcs n (length cables) kept few)
     (ap (λ (w : List ℕ). line (codes "layout" ∷ w ∷ []) ++ listed) (written (length cables) little)) cable_part in
-    let item_part = reads_items s arcs n items nothing_kept kept layout (raw_claim s claim) valid are high (counted-nothing n) accepted built.items_built layout_part in
-    reads-first s arcs (reader_at AtBudget) (state AtItem n nothing_kept []) (BudgetLine (pos n)) (behind_site s n items cables claim) (concat (map item_lines items) ++ layout) (raw_claim s claim) (can_budget s arcs n budget)
+    let item_part = reads_items s arcs n items empty_state kept layout (raw_claim s claim) valid are high (counted-nothing n) accepted built.items_built layout_part in
+    reads-first s arcs (reader_at AtBudget) (state AtItem n empty_state []) (BudgetLine (pos n)) (behind_site s n items cables claim) (concat (map item_lines items) ++ layout) (raw_claim s claim) (can_budget s arcs n budget)
     (ap (λ (w : List ℕ). line (codes "budget" ∷ w ∷ []) ++ (concat (map item_lines items) ++ layout)) (written n small)) item_part

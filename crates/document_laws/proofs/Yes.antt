@@ -7,7 +7,7 @@ use Rattle.cable_definitions.specs.declared.claim.Cause.{Cause}
 use Rattle.cable_definitions.specs.declared.claim.Cause.TheVariants.{Line, Site as SiteCause}
 use Rattle.cable_definitions.specs.Site.{Site}
 use Rattle.cable_definitions.specs.Arcs.{AreArcs}
-use Rattle.cable_definitions.specs.Document.{IsSiteAtFront, Yes}
+use Rattle.cable_definitions.specs.Document.{IsSiteAtFront, IsAcceptedDocument}
 use Rattle.cable_definitions.specs.Text.{site_lines, line_count}
 use Rattle.cable_definitions.specs.Refusal.{RawClaim, DocLine, ClaimLine, EndLine, Phase, AtBudget, Past, may_end, reader_at, IsClaimOf, ReadsLines, IsRefused}
 use Rattle.site_laws.proofs.Runs.{line_fault_same}
@@ -21,11 +21,11 @@ use Rattle.document_laws.proofs.CanRead.{ReadsAll}
 use Rattle.document_laws.proofs.WholeRead.{behind_site, document_parts, document-read, claim_of}
 
 -- the site of an accepted document stands at the front of its bytes
-yes_front : (bytes : List ℕ) (s : Site) (claim : Claim) → (y : Yes bytes s claim) → IsSiteAtFront bytes s (behind_site s y.budget y.items y.cables claim)
+yes_front : (bytes : List ℕ) (s : Site) (claim : Claim) → (y : IsAcceptedDocument bytes s claim) → IsSiteAtFront bytes s (behind_site s y.budget y.items y.cables claim)
 yes_front bytes s claim y = record { valid = y.valid; text = y.text ∙ document_parts s y.budget y.items y.cables claim }
 
 -- and the lines behind it are read to their end
-yes_read : (bytes : List ℕ) (s : Site) (claim : Claim) → (y : Yes bytes s claim) → ReadsAll s y.arcs (reader_at AtBudget) (behind_site s y.budget y.items y.cables claim) (raw_claim s claim)
+yes_read : (bytes : List ℕ) (s : Site) (claim : Claim) → (y : IsAcceptedDocument bytes s claim) → ReadsAll s y.arcs (reader_at AtBudget) (behind_site s y.budget y.items y.cables claim) (raw_claim s claim)
 yes_read bytes s claim y = document-read s y.arcs y.budget y.items y.kept y.cables claim y.valid y.are_arcs y.is_budget y.accepted y.built y.in_order y.in_range y.agrees
 
 -- there the input may end
@@ -33,7 +33,7 @@ past_ends : (phase : Phase) → phase ≡ Past → IsTrue (may_end phase)
 past_ends phase e = ap may_end e
 
 -- what is accepted isn't refused
-pub yes-stands : (bytes : List ℕ) (s : Site) (claim : Claim) (base line : ℕ) (cause : Cause) → Yes bytes s claim → IsRefused bytes base line cause → ⊥
+pub yes-stands : (bytes : List ℕ) (s : Site) (claim : Claim) (base line : ℕ) (cause : Cause) → IsAcceptedDocument bytes s claim → IsRefused bytes base line cause → ⊥
 yes-stands bytes s claim base line cause y (inl fault) =
     no_fault_in_front bytes (behind_site s y.budget y.items y.cables claim) s base fault.code line fault.broken_line (yes_front bytes s claim y) fault.fault
 yes-stands bytes s claim base line cause y (inr refused) =
@@ -56,7 +56,7 @@ pub record SameDocument (s t : Site) (claim other : Claim) : Type 0 where
   pub sites : s ≡ t
   pub claims : claim ≡ other
 
-pub yes-same : (bytes : List ℕ) (s t : Site) (claim other : Claim) → Yes bytes s claim → Yes bytes t other → SameDocument s t claim other
+pub yes-same : (bytes : List ℕ) (s t : Site) (claim other : Claim) → IsAcceptedDocument bytes s claim → IsAcceptedDocument bytes t other → SameDocument s t claim other
 yes-same bytes s t claim other y z =
     let rest = behind_site s y.budget y.items y.cables claim in
     let left = behind_site t z.budget z.items z.cables other in

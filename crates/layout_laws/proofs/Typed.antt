@@ -9,7 +9,7 @@ use Rattle.cable_definitions.specs.Walk.{load}
 use Rattle.cable_definitions.specs.Layout.{IsCable, Starts, Keeps, KeepsRange, KeepsJoined, KeepsCapacity, IsLegal, cost}
 use Rattle.cable_definitions.specs.Part.{IsGrown, IsTarget, IsBlocked, SameArcs, AreCheapTyped}
 use Rattle.layout_laws.specs.Alike.{StartsDiffer, SameEnds}
-use Rattle.layout_laws.specs.Typable.{IsTypable, with_cable}
+use Rattle.layout_laws.specs.Typable.{IsTypable, extended_by}
 use Rattle.layout_laws.proofs.Alike.{load-same, Keeps-same, Starts-same, ends_in_range-same}
 use Rattle.layout_laws.proofs.Arcs.{SameEnds-from_arcs}
 use Rattle.layout_laws.proofs.Legal.{kept_where_legal}
@@ -208,18 +208,18 @@ cheap_typed-same s cables xs ys a b =
 
 -- a turbine is blocked where the cheapest types never make a grown part
 pub IsBlocked-cheap : (s : Site) (part : List Cable) (turbine : ℕ) → IsGrown s part → IsTrue (is_turbine (kind_of s turbine)) → ¬ (Starts part turbine)
-    → ((q : ℕ) (cheap : List Cable) → IsTarget s part q → IsCandidate s turbine q → AreCheapTyped s (with_cable part turbine q) cheap → ¬ (IsGrown s cheap))
+    → ((q : ℕ) (cheap : List Cable) → IsTarget s part q → IsCandidate s turbine q → AreCheapTyped s (extended_by part turbine q) cheap → ¬ (IsGrown s cheap))
     → IsBlocked s part turbine
 IsBlocked-cheap s part turbine grown is not_joined h = record {
   grown = grown;
   turbine_is = is;
   not_joined = not_joined;
   no_arc = λ q typed t candidate arcs g.
-      let r = some_cheap_typed s (with_cable part turbine q) in
-      h q r.0 t candidate r.1 (IsGrown-cheap s (with_cable part turbine q) r.0 typed r.1 arcs g);
+      let r = some_cheap_typed s (extended_by part turbine q) in
+      h q r.0 t candidate r.1 (IsGrown-cheap s (extended_by part turbine q) r.0 typed r.1 arcs g);
 }
 
 -- and the other way round
 pub cheap-blocked : (s : Site) (part : List Cable) (turbine : ℕ) → IsBlocked s part turbine
-    → (q : ℕ) (cheap : List Cable) → IsTarget s part q → IsCandidate s turbine q → AreCheapTyped s (with_cable part turbine q) cheap → ¬ (IsGrown s cheap)
+    → (q : ℕ) (cheap : List Cable) → IsTarget s part q → IsCandidate s turbine q → AreCheapTyped s (extended_by part turbine q) cheap → ¬ (IsGrown s cheap)
 cheap-blocked s part turbine b q cheap t candidate a g = b.no_arc q cheap t candidate a.arcs g

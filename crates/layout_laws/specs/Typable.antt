@@ -16,5 +16,5 @@ pub record IsTypable (s : Site) (cables : List Cable) : Type 0 where
   pub loads : (i : ℕ) (c : Cable) → IsCable cables i c → load s cables c.from ≤ largest_capacity s
 
 -- the list with one more cable at its end, of type 0
-abbrev pub with_cable : List Cable → ℕ → ℕ → List Cable
-with_cable cables p q = cables ++ record { from = p; to = q; grade = 0 } ∷ []
+abbrev pub extended_by : List Cable → ℕ → ℕ → List Cable
+extended_by cables p q = cables ++ record { from = p; to = q; grade = 0 } ∷ []

@@ -6,7 +6,7 @@ ghost use Rattle.cable_definitions.specs.Site.{Site};
 ghost use Rattle.cable_definitions.specs.Arcs.{IsCandidate, kind_of, is_turbine, largest_capacity, cost_of, Bears, IsCheapest};
 ghost use Rattle.cable_definitions.specs.Layout.{Starts, KeepsRange, KeepsJoined, KeepsCapacity, IsLegal, cost};
 ghost use Rattle.cable_definitions.specs.Part.{IsGrown, IsTarget, IsBlocked, SameArcs, AreCheapTyped};
-ghost use Rattle.layout_laws.specs.Typable.{IsTypable, with_cable};
+ghost use Rattle.layout_laws.specs.Typable.{IsTypable, extended_by};
 
 /// Where some type bears a load one of them is the cheapest, and a load is borne exactly where it is at most the largest capacity.
 pub fn cheapest_type()
@@ -58,10 +58,10 @@ pub fn cost_of_types()
 pub fn types_of_blocked_turbines()
     ensures blocked { (s : Site) (part : List Cable) (turbine : ℕ) → IsGrown s part → IsTrue (is_turbine (kind_of s turbine))
         → ¬ (Starts part turbine)
-        → ((q : ℕ) (cheap : List Cable) → IsTarget s part q → IsCandidate s turbine q → AreCheapTyped s (with_cable part turbine q) cheap
+        → ((q : ℕ) (cheap : List Cable) → IsTarget s part q → IsCandidate s turbine q → AreCheapTyped s (extended_by part turbine q) cheap
         → ¬ (IsGrown s cheap))
         → IsBlocked s part turbine }
     ensures cheapest { (s : Site) (part : List Cable) (turbine : ℕ) → IsBlocked s part turbine
-        → (q : ℕ) (cheap : List Cable) → IsTarget s part q → IsCandidate s turbine q → AreCheapTyped s (with_cable part turbine q) cheap
+        → (q : ℕ) (cheap : List Cable) → IsTarget s part q → IsCandidate s turbine q → AreCheapTyped s (extended_by part turbine q) cheap
         → ¬ (IsGrown s cheap) }
 {}

@@ -6,7 +6,7 @@ use Rattle.cable_definitions.specs.declared.cable.Cable.{Cable}
 use Rattle.cable_definitions.specs.declared.cable.Rule.{Rule}
 use Rattle.cable_definitions.specs.Site.{Site}
 use Rattle.cable_definitions.specs.Part.{IsGrown, IsBlocked, AreCheapTyped, IsFirstBrokenOfPart}
-use Rattle.layout_laws.specs.Typable.{with_cable}
+use Rattle.layout_laws.specs.Typable.{extended_by}
 use Rattle.layout_laws.proofs.Typed.{cheap_typed-same, IsGrown-cheap, IsBlocked-cheap, cheap-blocked}
 use Rattle.layout_meaning.specs.declared.joining.JoinFault.{JoinFault}
 use Rattle.layout_meaning.specs.declared.joining.JoinFault.TheVariants.{Joined, Target, Candidate, Breaks}
@@ -23,7 +23,7 @@ broken_grown s cables rule a b f grown = f.broken (grown rule f.place f.second_p
 -- a free arc that breaks a rule isn't grown with any types
 pub breaks_never : (s : Site) (part : List Cable) (from to : ℕ) (rule : Rule) (a b : ℕ) → BreaksWith s part from to rule a b → NeverGrown s part from to
 breaks_never s part from to rule a b w typed arcs grown =
-    broken_grown s w.typed rule a b w.broken (IsGrown-cheap s (with_cable part from to) w.typed typed w.cheapest arcs grown)
+    broken_grown s w.typed rule a b w.broken (IsGrown-cheap s (extended_by part from to) w.typed typed w.cheapest arcs grown)
 
 -- an arc that is refused can't be added
 pub refused_joins : (s : Site) (part : List Cable) (from to : ℕ) (fault : JoinFault) → IsJoining s part from to (Err fault) → (typed : List Cable) → ¬ (Joins s part from to typed)
@@ -42,7 +42,7 @@ breaks_exactly s part from to (Breaks rule a b) w = (λ e. (w.free, breaks_never
 
 -- it is the rule that the cheapest types break
 pub breaks_first : (s : Site) (part : List Cable) (from to : ℕ) (fault : JoinFault) → IsJoining s part from to (Err fault)
-    → (rule : Rule) (a b : ℕ) → refused fault ≡ refused (Breaks rule a b) → (typed : List Cable) → AreCheapTyped s (with_cable part from to) typed → IsFirstBrokenOfPart s typed rule a b
+    → (rule : Rule) (a b : ℕ) → refused fault ≡ refused (Breaks rule a b) → (typed : List Cable) → AreCheapTyped s (extended_by part from to) typed → IsFirstBrokenOfPart s typed rule a b
 breaks_first s part from to Joined n rule a b e typed cheapest = absurd (cc)
 breaks_first s part from to Target f rule a b e typed cheapest = absurd (cc)
 breaks_first s part from to Candidate f rule a b e typed cheapest = absurd (cc)
@@ -53,7 +53,7 @@ breaks_first s part from to (Breaks r x y) w rule a b e typed cheapest =
     subst (λ (k : ℕ). IsFirstBrokenOfPart s typed rule a k) on_b
     (subst (λ (k : ℕ). IsFirstBrokenOfPart s typed rule k y) on_a
     (subst (λ (q : Rule). IsFirstBrokenOfPart s typed q x y) on_rule
-    (subst (λ (xs : List Cable). IsFirstBrokenOfPart s xs r x y) (cheap_typed-same s (with_cable part from to) w.typed typed w.cheapest cheapest) w.broken)))
+    (subst (λ (xs : List Cable). IsFirstBrokenOfPart s xs r x y) (cheap_typed-same s (extended_by part from to) w.typed typed w.cheapest cheapest) w.broken)))
 
 -- a turbine from which no arc can be added is blocked
 pub blocked_from : (s : Site) (part : List Cable) (turbine : ℕ) → IsGrown s part → IsUnjoined s part turbine → ¬ (CanJoin s part turbine) → IsBlocked s part turbine

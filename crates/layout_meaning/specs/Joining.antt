@@ -6,7 +6,7 @@ use Rattle.cable_definitions.specs.Site.{Site}
 use Rattle.cable_definitions.specs.Arcs.{IsCandidate, kind_of, is_turbine}
 use Rattle.cable_definitions.specs.Layout.{Starts}
 use Rattle.cable_definitions.specs.Part.{IsGrown, IsTarget, SameArcs, AreCheapTyped, IsFirstBrokenOfPart}
-use Rattle.layout_laws.specs.Typable.{with_cable}
+use Rattle.layout_laws.specs.Typable.{extended_by}
 use Rattle.layout_meaning.specs.declared.joining.JoinFault.{JoinFault}
 use Rattle.layout_meaning.specs.declared.joining.JoinFault.TheVariants.{Joined, Target, Candidate, Breaks}
 
@@ -24,14 +24,14 @@ pub record IsFreeArc (s : Site) (part : List Cable) (from to : ℕ) : Type 0 whe
 -- such an arc, with which the part is grown when all cables have these cheapest types
 pub record Joins (s : Site) (part : List Cable) (from to : ℕ) (typed : List Cable) : Type 0 where
   pub free : IsFreeArc s part from to
-  pub cheapest : AreCheapTyped s (with_cable part from to) typed
+  pub cheapest : AreCheapTyped s (extended_by part from to) typed
   pub grown : IsGrown s typed
 
 -- such an arc, with which the part breaks a rule when all cables have their cheapest types
 pub record BreaksWith (s : Site) (part : List Cable) (from to : ℕ) (rule : Rule) (a b : ℕ) : Type 0 where
   pub free : IsFreeArc s part from to
   pub typed : List Cable
-  pub cheapest : AreCheapTyped s (with_cable part from to) typed
+  pub cheapest : AreCheapTyped s (extended_by part from to) typed
   pub broken : IsFirstBrokenOfPart s typed rule a b
 
 -- from is no turbine, or a cable starts there
@@ -40,7 +40,7 @@ IsTaken s part from = (¬ (IsTrue (is_turbine (kind_of s from)))) ⊎ (Starts pa
 
 -- no types make the part with the arc grown
 abbrev pub NeverGrown : Site → List Cable → ℕ → ℕ → Type 0
-NeverGrown s part from to = (typed : List Cable) → SameArcs typed (with_cable part from to) → ¬ (IsGrown s typed)
+NeverGrown s part from to = (typed : List Cable) → SameArcs typed (extended_by part from to) → ¬ (IsGrown s typed)
 
 -- some arc from the point can be added
 abbrev pub CanJoin : Site → List Cable → ℕ → Type 0

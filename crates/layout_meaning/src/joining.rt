@@ -4,7 +4,7 @@ ghost use Rattle.std.specs.Prelude.{ℕ, ◌≤◌, ◌<◌, ◌↔◌, IsTrue, 
 ghost use Rattle.cable_definitions.specs.Arcs.{kind_of, is_turbine};
 ghost use Rattle.cable_definitions.specs.Layout.{Starts};
 ghost use Rattle.cable_definitions.specs.Part.{IsGrown, IsTarget, AreCheapTyped};
-ghost use Rattle.layout_laws.specs.Typable.{with_cable};
+ghost use Rattle.layout_laws.specs.Typable.{extended_by};
 ghost use Rattle.layout_meaning.specs.Joining.{IsUnjoined, IsJoining};
 ghost use Rattle.layout_meaning.specs.Typed.{JoinPoints};
 
@@ -86,7 +86,7 @@ fn grown_by(site: &Site, part: &[Cable], from: u32, to: u32) -> CableList
     requires points { JoinPoints site.now part.now }
     requires from { from < length site.now.points }
     requires to { to < length site.now.points }
-    ensures { AreCheapTyped site.now (with_cable part.now from to) result }
+    ensures { AreCheapTyped site.now (extended_by part.now from to) result }
 {
     let mut cables = CableList::new();
     for cable in part {

@@ -32,7 +32,7 @@ impl<'a> PartialLayout<'a> {
     ghost use Rattle.cable_definitions.specs.Arcs.{IsCandidate, kind_of, is_turbine};
     ghost use Rattle.cable_definitions.specs.Layout.{Starts};
     ghost use Rattle.cable_definitions.specs.Part.{IsGrown, IsTarget, IsBlocked, AreCheapTyped, IsFirstBrokenOfPart};
-    ghost use Rattle.layout_laws.specs.Typable.{with_cable};
+    ghost use Rattle.layout_laws.specs.Typable.{extended_by};
     ghost use Rattle.layout_meaning.specs.Joining.{IsTaken, IsUnjoined, IsFreeArc, NeverGrown};
 
     /// A part of no cable, with room for 256. The error is want of memory.
@@ -85,9 +85,9 @@ impl<'a> PartialLayout<'a> {
         ensures breaks { ((rule : Rule) × (a : ℕ) × (b : ℕ) × (result ≡ Err (JoinFault.Breaks rule a b)))
             ↔ (IsFreeArc self.old.site self.old.cables from to × NeverGrown self.old.site self.old.cables from to) }
         ensures broken_rule { (rule : Rule) (a b : ℕ) → result ≡ Err (JoinFault.Breaks rule a b)
-            → (typed : List Cable) → AreCheapTyped self.old.site (with_cable self.old.cables from to) typed
+            → (typed : List Cable) → AreCheapTyped self.old.site (extended_by self.old.cables from to) typed
             → IsFirstBrokenOfPart self.old.site typed rule a b }
-        ensures added { OnOk result (AreCheapTyped self.old.site (with_cable self.old.cables from to) self.new.cables) }
+        ensures added { OnOk result (AreCheapTyped self.old.site (extended_by self.old.cables from to) self.new.cables) }
         ensures grown { OnOk result (IsGrown self.old.site self.new.cables) }
         ensures same_site { self.new.site ≡ self.old.site }
         ensures unchanged { OnErr result (self.new ≡ self.old) }

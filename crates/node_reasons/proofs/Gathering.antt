@@ -17,7 +17,7 @@ use Rattle.layout_laws.specs.Alike.{SameOuts}
 use Rattle.proof_laws.proofs.Boxes.{append_left, append_right, append_either}
 use Rattle.proof_laws.proofs.Lists.{pairs_at, some_at}
 use Rattle.layout_laws.proofs.Typing.{all-at}
-use Rattle.node_reasons.specs.Used.{UsedList, with_cable, with_twins, IsUsed, AreTwins, AreUsedBelow, IsNext}
+use Rattle.node_reasons.specs.Used.{UsedList, with_used, with_twins, IsUsed, AreTwins, AreUsedBelow, IsNextStart}
 
 -- ---- one arc more
 -- the cable of an arc, of type 0
@@ -137,7 +137,7 @@ unused_step arcs marks n m used l f h u =
 
 -- a used arc that starts like the last one
 pub twins_step : (arcs : List Arc) (marks : List Mark) (n : ℕ) (a : Arc) (used : UsedList) (last next : ℕ) → slice_get arcs n ≡ Some a → slice_get marks n ≡ Some Used → a.from < next
-    → AreUsedBelow arcs marks n used → IsNext arcs marks n used last next → AreUsedBelow arcs marks (n + 1) (with_twins used last n)
+    → AreUsedBelow arcs marks n used → IsNextStart arcs marks n used last next → AreUsedBelow arcs marks (n + 1) (with_twins used last n)
 twins_step arcs marks n a used last next e f l u x =
     let before = x.last_is (omega arith) in
     let later = x.later n a (omega arith) e in
@@ -160,7 +160,7 @@ twins_step arcs marks n a used last next e f l u x =
 
 -- a used arc that starts in a later point
 pub push_step : (arcs : List Arc) (marks : List Mark) (n : ℕ) (a : Arc) (used : UsedList) (last next : ℕ) → slice_get arcs n ≡ Some a → slice_get marks n ≡ Some Used → next ≤ a.from
-    → a.from < 256 → AreUsedBelow arcs marks n used → IsNext arcs marks n used last next → AreUsedBelow arcs marks (n + 1) (with_cable used n (cable_on a))
+    → a.from < 256 → AreUsedBelow arcs marks n used → IsNextStart arcs marks n used last next → AreUsedBelow arcs marks (n + 1) (with_used used n (cable_on a))
 push_step arcs marks n a used last next e f l w u x =
     let more : used_below arcs marks (n + 1) ≡ used_below arcs marks n ++ cable_on a ∷ [] = used_next arcs marks n a Used e f in
     let count = length_push used.cables (cable_on a) in
@@ -188,7 +188,7 @@ push_step arcs marks n a used last next e f l w u x =
 
 -- and is the last one then
 pub next_step : (s : Site) (arcs : List Arc) (marks : List Mark) (n : ℕ) (a : Arc) (used : UsedList) (last next : ℕ) → AreArcs s arcs → slice_get arcs n ≡ Some a → slice_get marks n ≡ Some Used → next ≤ a.from
-    → a.from < 256 → IsNext arcs marks n used last next → IsNext arcs marks (n + 1) (with_cable used n (cable_on a)) n (a.from + 1)
+    → a.from < 256 → IsNextStart arcs marks n used last next → IsNextStart arcs marks (n + 1) (with_used used n (cable_on a)) n (a.from + 1)
 next_step s arcs marks n a used last next are e f l w x =
     let count = length_push used.cables (cable_on a) in
     let few = x.few in

@@ -19,7 +19,7 @@ use Rattle.number_laws.proofs.Ring.{var, nat, plus, times, same_value, at_most}
 use Rattle.number_laws.proofs.Sums.{sum_int}
 use Rattle.layout_laws.proofs.Typing.{some_bears}
 use Rattle.proof_laws.proofs.Points.{largest_capacity-some, capacity-most}
-use Rattle.node_reasons.specs.Extents.{used_value, IsExtremeUse, IsWithin}
+use Rattle.node_reasons.specs.Extents.{used_value, IsExtremeUse, IsUpTo}
 
 -- ---- one arc
 -- more units of load count as more, where each counts as something
@@ -33,12 +33,12 @@ times_down (pos k) a b h l = absurd (omega (arith, ints))
 times_down (negsuc k) a b h l = at_most (times (var (negsuc k)) (nat b)) (times (var (negsuc k)) (nat a)) (omega (arith, mul-le-mul_left (suc k) h))
 
 -- a number in this range is passed on as it is
-pub back : (z : ℤ) → IsWithin 1000000000000 z → to_z w64 (of_z w64 z) ≡ z
+pub back : (z : ℤ) → IsUpTo 1000000000000 z → to_z w64 (of_z w64 z) ≡ z
 back z h = let a = h.below in let b = h.above in to_z-of_z w64 z (omega (arith, ints, a, b))
 
 -- what the program counts a use at a load as
-pub value_is : (u v : ℤ) (l : ℕ) (x y w : ℤ) → x ≡ u → y ≡ v → w ≡ pos l → IsWithin 128 u → IsWithin 128 v → l ≤ 10000
-    → (to_z w64 (of_z w64 (to_z w64 (of_z w64 x) +ℤ to_z w64 (of_z w64 (to_z w64 (of_z w64 y) *ℤ to_z w64 (of_z w64 w))))) ≡ used_value u v l) × IsWithin 2000000 (used_value u v l)
+pub value_is : (u v : ℤ) (l : ℕ) (x y w : ℤ) → x ≡ u → y ≡ v → w ≡ pos l → IsUpTo 128 u → IsUpTo 128 v → l ≤ 10000
+    → (to_z w64 (of_z w64 (to_z w64 (of_z w64 x) +ℤ to_z w64 (of_z w64 (to_z w64 (of_z w64 y) *ℤ to_z w64 (of_z w64 w))))) ≡ used_value u v l) × IsUpTo 2000000 (used_value u v l)
 value_is u v l x y w e f g a b h =
     let small = product v b in
     let low = small.below in
@@ -60,7 +60,7 @@ value_is u v l x y w e f g a b h =
       record { below = omega (arith, ints, one, low, high); above = omega (arith, ints, one, low, high) },
     )
   where
-    product : (z : ℤ) → IsWithin 128 z → IsWithin 1280000 (z *ℤ pos l)
+    product : (z : ℤ) → IsUpTo 128 z → IsUpTo 1280000 (z *ℤ pos l)
     product (pos k) r =
         let top = r.below in
         let k_small : k ≤ 128 = omega (arith, ints, top) in
@@ -185,7 +185,7 @@ sum_same R anti s arcs marks f x y p q =
         λ i. here i ∷ rest i
 
 -- a small number is in the range of those that are passed on
-pub wider : (z : ℤ) → IsWithin 2000000 z → IsWithin 1000000000000 z
+pub wider : (z : ℤ) → IsUpTo 2000000 z → IsUpTo 1000000000000 z
 wider z h = let a = h.below in let b = h.above in record { below = omega (arith, ints, a, b); above = omega (arith, ints, a, b) }
 
 -- ---- rows that can't be met

@@ -14,6 +14,6 @@ pub record IsExtremeUse (Relates : ℤ → ℤ → Type 0) (on_use on_load : ℤ
   pub none_beyond : (load : ℕ) → low ≤ load → load ≤ high → Relates extreme (used_value on_use on_load load)
 
 -- a number is from -n to n
-pub record IsWithin (n : ℕ) (z : ℤ) : Type 0 where
+pub record IsUpTo (n : ℕ) (z : ℤ) : Type 0 where
   pub below : z ≤ℤ pos n
   pub above : neg_ℤ (pos n) ≤ℤ z

@@ -15,8 +15,8 @@ pub record UsedList : Type 0 where
   pub twins : Option (ℕ × ℕ)
 
 -- the list with one more cable, of this arc number
-abbrev pub with_cable : UsedList → ℕ → Cable → UsedList
-with_cable used number cable = record { cables = used.cables ++ cable ∷ []; numbers = used.numbers ++ number ∷ []; twins = used.twins }
+abbrev pub with_used : UsedList → ℕ → Cable → UsedList
+with_used used number cable = record { cables = used.cables ++ cable ∷ []; numbers = used.numbers ++ number ∷ []; twins = used.twins }
 
 -- the list with these two arcs that start alike
 abbrev pub with_twins : UsedList → ℕ → ℕ → UsedList
@@ -51,7 +51,7 @@ abbrev pub AreUsed : List Arc → List Mark → UsedList → Type 0
 AreUsed arcs marks used = AreUsedBelow arcs marks (length arcs) used
 
 -- The last of the used arcs below number n, where one is gathered, starts in the point before this one; later arcs start there or in a later point.
-pub record IsNext (arcs : List Arc) (marks : List Mark) (n : ℕ) (used : UsedList) (last next : ℕ) : Type 0 where
+pub record IsNextStart (arcs : List Arc) (marks : List Mark) (n : ℕ) (used : UsedList) (last next : ℕ) : Type 0 where
   pub few : length used.cables ≤ next
   pub within : next ≤ 256
   pub last_is : 1 ≤ next → (arc : Arc) × (IsUsed arcs marks last arc) × (last < n) × (arc.from + 1 ≡ next) × Starts used.cables arc.from

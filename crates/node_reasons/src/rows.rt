@@ -6,7 +6,7 @@ ghost use Rattle.cable_definitions.specs.Arcs.{AreArcs, kind_of, largest_capacit
 ghost use Rattle.cable_definitions.specs.Row.{Row};
 ghost use Rattle.cable_definitions.specs.Choice.{IsExtreme, IsSumOfExtremes, AtMost, AtLeast, least_load as least_load_of};
 ghost use Rattle.cable_definitions.specs.Tree.{CannotMeet, counted};
-ghost use Rattle.node_reasons.specs.Extents.{used_value, IsExtremeUse, IsWithin};
+ghost use Rattle.node_reasons.specs.Extents.{used_value, IsExtremeUse, IsUpTo};
 
 use crate::flows::{kind_at, largest_capacity};
 use bound_value::{Decisions, Mark};
@@ -36,7 +36,7 @@ fn least_load(site: &Site, p: u32) -> u32
 fn value_at(counts: (i8, i8), load: u32) -> i64
     requires { load ≤ 10000 }
     ensures value { result ≡ used_value counts.0 counts.1 load }
-    ensures small { IsWithin 2000000 result }
+    ensures small { IsUpTo 2000000 result }
 {
     i64::from(counts.0) + i64::from(counts.1) * i64::from(load)
 }
@@ -47,8 +47,8 @@ fn extent_of_use(counts: (i8, i8), low: u32, high: u32) -> Extent
     requires small { high ≤ 10000 }
     ensures least { IsExtremeUse AtMost counts.0 counts.1 low high result.least }
     ensures greatest { IsExtremeUse AtLeast counts.0 counts.1 low high result.greatest }
-    ensures least_small { IsWithin 2000000 result.least }
-    ensures greatest_small { IsWithin 2000000 result.greatest }
+    ensures least_small { IsUpTo 2000000 result.least }
+    ensures greatest_small { IsUpTo 2000000 result.greatest }
 {
     let at_low = value_at(counts, low);
     let at_high = value_at(counts, high);
@@ -80,8 +80,8 @@ fn extent_of_used(
     requires small { largest ≤ 10000 }
     ensures least { (r : Row) (a : AnArc) → slice_get pool.now row ≡ Some r → slice_get arcs.now arc ≡ Some a → IsExtreme AtMost site.now a Mark.Used (counted r arc a) result.least }
     ensures greatest { (r : Row) (a : AnArc) → slice_get pool.now row ≡ Some r → slice_get arcs.now arc ≡ Some a → IsExtreme AtLeast site.now a Mark.Used (counted r arc a) result.greatest }
-    ensures least_small { IsWithin 2000000 result.least }
-    ensures greatest_small { IsWithin 2000000 result.greatest }
+    ensures least_small { IsUpTo 2000000 result.least }
+    ensures greatest_small { IsUpTo 2000000 result.greatest }
 {
     let _valid = site.points();
     let counts = pool.coefficients(site, arcs, row, arc);
@@ -120,8 +120,8 @@ fn extent_of_arc(
     requires small { largest ≤ 10000 }
     ensures least { (r : Row) (a : AnArc) → slice_get pool.now row ≡ Some r → slice_get arcs.now arc ≡ Some a → IsExtreme AtMost site.now a mark (counted r arc a) result.least }
     ensures greatest { (r : Row) (a : AnArc) → slice_get pool.now row ≡ Some r → slice_get arcs.now arc ≡ Some a → IsExtreme AtLeast site.now a mark (counted r arc a) result.greatest }
-    ensures least_small { IsWithin 2000000 result.least }
-    ensures greatest_small { IsWithin 2000000 result.greatest }
+    ensures least_small { IsUpTo 2000000 result.least }
+    ensures greatest_small { IsUpTo 2000000 result.greatest }
 {
     match mark {
         Mark::Unused => {
@@ -153,8 +153,8 @@ fn extent_of_row(
     requires row { row < length pool.now }
     ensures least { (r : Row) → slice_get pool.now row ≡ Some r → IsSumOfExtremes AtMost site.now arcs.now decisions.now (counted r) result.least }
     ensures greatest { (r : Row) → slice_get pool.now row ≡ Some r → IsSumOfExtremes AtLeast site.now arcs.now decisions.now (counted r) result.greatest }
-    ensures least_small { IsWithin 1000000000000 result.least }
-    ensures greatest_small { IsWithin 1000000000000 result.greatest }
+    ensures least_small { IsUpTo 1000000000000 result.least }
+    ensures greatest_small { IsUpTo 1000000000000 result.greatest }
 {
     let largest = largest_capacity(site);
     let mut sum = Extent {

@@ -2,7 +2,7 @@
 
 ghost use Rattle.std.specs.Prelude.{◌≡◌, ◌+◌, ◌≤◌, ◌<◌, length};
 ghost use Rattle.cable_definitions.specs.Arcs.{AreArcs};
-ghost use Rattle.node_reasons.specs.Used.{AreUsed, AreUsedBelow, IsNext};
+ghost use Rattle.node_reasons.specs.Used.{AreUsed, AreUsedBelow, IsNextStart};
 
 use bound_value::{Decisions, Mark};
 use candidate_cables::Arcs;
@@ -36,7 +36,7 @@ impl Model for UsedArcs {
 
 impl UsedArcs {
     ghost use Rattle.std.specs.Prelude.{◌≡◌, ◌<◌, ◌≤◌, length, [], None};
-    ghost use Rattle.node_reasons.specs.Used.{UsedList, with_cable, with_twins};
+    ghost use Rattle.node_reasons.specs.Used.{UsedList, with_used, with_twins};
 
     /// No used arc.
     fn none() -> UsedArcs
@@ -80,7 +80,7 @@ impl UsedArcs {
     /// Adds the cable of an arc.
     fn push(&mut self, number: u32, cable: Cable)
         requires { length self.old.cables < 256 }
-        ensures { self.new ≡ with_cable self.old number cable }
+        ensures { self.new ≡ with_used self.old number cable }
     {
         let count = self.count;
         if count < MOST_STARTS {
@@ -118,9 +118,9 @@ fn gather(
     requires count { length decisions.now ≡ length arcs.now }
     requires number { number < length arcs.now }
     requires used { AreUsedBelow arcs.now decisions.now number used.old }
-    requires next { IsNext arcs.now decisions.now number used.old latest.last latest.next }
+    requires next { IsNextStart arcs.now decisions.now number used.old latest.last latest.next }
     ensures used { AreUsedBelow arcs.now decisions.now (number + 1) used.new }
-    ensures next { IsNext arcs.now decisions.now (number + 1) used.new result.last result.next }
+    ensures next { IsNextStart arcs.now decisions.now (number + 1) used.new result.last result.next }
 {
     match decisions.mark(number) {
         Mark::Free => return latest,

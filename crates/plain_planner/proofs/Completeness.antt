@@ -17,7 +17,7 @@ use Rattle.cable_definitions.specs.Walk.{cable_out}
 use Rattle.cable_definitions.specs.Layout.{IsLegal, cost}
 use Rattle.layout_laws.specs.Alike.{StartsDiffer, SameOuts}
 use Rattle.layout_laws.proofs.Alike.{cable_out-from, cable_out-place, IsLegal-ordered, cost-ordered}
-use Rattle.plain_planner.specs.Choices.{cable_to, ChoiceAt, IsChoice, Ascends}
+use Rattle.plain_planner.specs.Choices.{cable_to, ChoiceAt, IsOneEach, Ascends}
 
 -- the first cables out of so many points from p on, in order
 abbrev pub outs : List Cable → ℕ → List Point → List Cable
@@ -50,7 +50,7 @@ turbine_some s cables p power l e = l.joined p (ap is_turbine e)
 
 -- the first cables out of all points are a choice
 outs_are : (s : Site) (cables : List Cable) → length s.types ≡ 1 → IsLegal s cables → (p : ℕ) (points : List Point)
-    → ((i : ℕ) (point : Point) → slice_get points i ≡ Some point → (kind_of s (p + i) ≡ point.kind) × (point.kind ≢ Bend)) → IsChoice s p points (outs cables p points)
+    → ((i : ℕ) (point : Point) → slice_get points i ≡ Some point → (kind_of s (p + i) ≡ point.kind) × (point.kind ≢ Bend)) → IsOneEach s p points (outs cables p points)
 outs_are s cables one l p [] h = refl
 outs_are s cables one l p (point ∷ points) h =
     let further = outs_are s cables one l (p + 1) points (λ i x e. let k = h (suc i) x e in (ap (kind_of s) (shift i) ∙ k.0, k.1)) in
@@ -63,15 +63,15 @@ outs_are s cables one l p (point ∷ points) h =
     start : p ≡ p + 0
     start = omega arith
 
-    by : (kind : Kind) → kind_of s p ≡ kind → kind ≢ Bend → (o : Option Cable) → cable_out cables p ≡ o → IsChoice s (p + 1) points (outs cables (p + 1) points)
-        → ChoiceAt s p kind (cons_option o (outs cables (p + 1) points)) (IsChoice s (p + 1) points)
+    by : (kind : Kind) → kind_of s p ≡ kind → kind ≢ Bend → (o : Option Cable) → cable_out cables p ≡ o → IsOneEach s (p + 1) points (outs cables (p + 1) points)
+        → ChoiceAt s p kind (cons_option o (outs cables (p + 1) points)) (IsOneEach s (p + 1) points)
     by (Turbine power) e n None f k = absurd (missing (cable_out cables p) f (turbine_some s cables p power l e))
       where
         missing : (o : Option Cable) → o ≡ None → IsSome o → ⊥
         missing None e h = false≢true h
         missing (Some c) e h = cc
     by (Turbine power) e n (Some c) f k = (cable_is s cables p c one l f, k)
-    by (Substation feeders power) e n o f k = subst (λ (x : Option Cable). IsChoice s (p + 1) points (cons_option x (outs cables (p + 1) points))) (sym (substation_none s cables p feeders power l e o f)) k
+    by (Substation feeders power) e n o f k = subst (λ (x : Option Cable). IsOneEach s (p + 1) points (cons_option x (outs cables (p + 1) points))) (sym (substation_none s cables p feeders power l e o f)) k
     by Bend e n o f k = absurd (n refl)
 
 -- a first cable out of another point isn't found
@@ -145,11 +145,11 @@ rises_later : (p : ℕ) (cables : List Cable) → Rises (p + 1) cables → Rises
 rises_later p cables h = record { from = λ k d i. omega (arith, h.from k d i); in_order = h.in_order }
 
 -- each choice rises
-pub choice_rises : (s : Site) (p : ℕ) (points : List Point) (cables : List Cable) → IsChoice s p points cables → Rises p cables
+pub choice_rises : (s : Site) (p : ℕ) (points : List Point) (cables : List Cable) → IsOneEach s p points cables → Rises p cables
 choice_rises s p [] cables h = subst (Rises p) (sym h) (record { from = All-nil (λ (c : Cable). p ≤ c.from); in_order = λ i j d k l. absurd (omega arith) })
 choice_rises s p (point ∷ points) cables h = by point.kind cables (choice_rises s (p + 1) points) h
   where
-    by : (kind : Kind) (cables : List Cable) → ((rest : List Cable) → IsChoice s (p + 1) points rest → Rises (p + 1) rest) → ChoiceAt s p kind cables (IsChoice s (p + 1) points) → Rises p cables
+    by : (kind : Kind) (cables : List Cable) → ((rest : List Cable) → IsOneEach s (p + 1) points rest → Rises (p + 1) rest) → ChoiceAt s p kind cables (IsOneEach s (p + 1) points) → Rises p cables
     by (Turbine power) [] further h = absurd h
     by (Turbine power) (c ∷ cables) further h = rises_more p c cables (ap (λ (x : Cable). x.from) h.0.2) (further cables h.1)
     by (Substation feeders power) cables further h = rises_later p cables (further cables h)
@@ -165,7 +165,7 @@ starts_differ cables h i j c d ci dj l e =
 
 -- a choice that is as good as a legal layout
 pub record IsAsGood (s : Site) (cables choice : List Cable) : Type 0 where
-  pub choice_is : IsChoice s 0 s.points choice
+  pub choice_is : IsOneEach s 0 s.points choice
   pub legal : IsLegal s choice
   pub same_cost : cost s choice ≡ cost s cables
 

@@ -19,9 +19,9 @@ ChoiceAt s p (Substation feeders power) cables Further = Further cables
 ChoiceAt s p Bend cables Further = Further cables
 
 -- one such cable for each turbine among these points, whose numbers begin at p, in order
-abbrev pub IsChoice : Site → ℕ → List Point → List Cable → Type 0
-IsChoice s p [] cables = cables ≡ []
-IsChoice s p (point ∷ points) cables = ChoiceAt s p point.kind cables (IsChoice s (p + 1) points)
+abbrev pub IsOneEach : Site → ℕ → List Point → List Cable → Type 0
+IsOneEach s p [] cables = cables ≡ []
+IsOneEach s p (point ∷ points) cables = ChoiceAt s p point.kind cables (IsOneEach s (p + 1) points)
 
 -- the cables, each of which starts in a greater point than the one before it
 abbrev pub Ascends : List Cable → Type 0
@@ -30,7 +30,7 @@ Ascends cables = AllPairs (λ c d. c.from < d.from) cables
 -- the list is these cables and then one for each turbine from p on
 pub record Completes (s : Site) (chosen : List Cable) (p : ℕ) (cables : List Cable) : Type 0 where
   pub rest : List Cable
-  pub choice : IsChoice s p (drop p s.points) rest
+  pub choice : IsOneEach s p (drop p s.points) rest
   pub joined : cables ≡ chosen ++ rest
 
 -- the list is these cables, then one from p to a point below the bound, and then one for each turbine after p
@@ -47,9 +47,9 @@ pub record IsBestOf (s : Site) (Tried : List Cable → Type 0) (layout : List Ca
   pub least : (cables : List Cable) → Tried cables → IsLegal s cables → best_cost ≤ cost s cables
 
 -- such a layout, or none where no list that was tried is legal
-abbrev pub IsBest : Site → (List Cable → Type 0) → Option (List Cable × ℕ) → Type 0
-IsBest s Tried None = (cables : List Cable) → Tried cables → ¬ (IsLegal s cables)
-IsBest s Tried (Some best) = IsBestOf s Tried best.0 best.1
+abbrev pub IsBestTried : Site → (List Cable → Type 0) → Option (List Cable × ℕ) → Type 0
+IsBestTried s Tried None = (cables : List Cable) → Tried cables → ¬ (IsLegal s cables)
+IsBestTried s Tried (Some best) = IsBestOf s Tried best.0 best.1
 
 -- the one that costs less, and of equal costs the first
 abbrev pub cheaper : Option (List Cable × ℕ) → Option (List Cable × ℕ) → Option (List Cable × ℕ)
@@ -58,6 +58,6 @@ cheaper (Some known) None = Some known
 cheaper (Some known) (Some found) = if nat_lt found.1 known.1 then Some found else Some known
 
 -- what judging the cables finds: a legal layout of them with its cost, or none where they aren't legal
-abbrev pub IsJudged : Site → List Cable → Option (List Cable × ℕ) → Type 0
-IsJudged s cables None = ¬ (IsLegal s cables)
-IsJudged s cables (Some found) = (found.0 ≡ cables) × IsLegal s cables × (found.1 ≡ cost s cables)
+abbrev pub IsJudgement : Site → List Cable → Option (List Cable × ℕ) → Type 0
+IsJudgement s cables None = ¬ (IsLegal s cables)
+IsJudgement s cables (Some found) = (found.0 ≡ cables) × IsLegal s cables × (found.1 ≡ cost s cables)

@@ -7,7 +7,7 @@ mod tests;
 
 ghost use Rattle.std.specs.Prelude.{◌≡◌, ◌≢◌, ◌+◌, ◌<◌, ◌≤◌, ◌↔◌, IsTrue, length, vec_len, All, AllPairs, IfOk, OnOk, IfSome, IfNone};
 ghost use Rattle.cable_definitions.specs.Layout.{IsLegal, cost, Least, HasNone};
-ghost use Rattle.plain_planner.specs.Choices.{Ascends, Completes, IsBest, IsJudged, cheaper as cheaper_of};
+ghost use Rattle.plain_planner.specs.Choices.{Ascends, Completes, IsBestTried, IsJudgement, cheaper as cheaper_of};
 
 use layout_meaning::{Cable, Layout, Verdict, judge_cables};
 use site_model::{Kind, Point, Site};
@@ -63,7 +63,7 @@ fn best_from(
     requires before { All (λ c. c.from < p) chosen.old.items }
     requires in_order { Ascends chosen.old.items }
     ensures same { OnOk result (chosen.new.items ≡ chosen.old.items) }
-    ensures best { IfOk result (λ best. IsBest site.now (Completes site.now chosen.old.items p) best) }
+    ensures best { IfOk result (λ best. IsBestTried site.now (Completes site.now chosen.old.items p) best) }
 {
     let points = site.points();
     if p as usize == points.len() {
@@ -90,7 +90,7 @@ fn best_from(
 /// The cables as a layout with its cost, or none where they are not legal.
 fn judged(alloc: Global, site: &Site, cables: &[Cable]) -> Result<Option<(Layout, u64)>, AllocError>
     requires { length cables.now ≤ 256 }
-    ensures { IfOk result (λ found. IsJudged site.now cables.now found) }
+    ensures { IfOk result (λ found. IsJudgement site.now cables.now found) }
 {
     match judge_cables(site, cables) {
         Verdict::Broken(..) => Ok(None),

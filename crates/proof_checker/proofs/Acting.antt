@@ -15,7 +15,7 @@ use Rattle.cable_definitions.specs.declared.claim.Cause.TheVariants.{Limit, Node
 use Rattle.cable_definitions.specs.Site.{Site}
 use Rattle.cable_definitions.specs.Row.{Row}
 use Rattle.cable_definitions.specs.Choice.{AreLawful, IsValue}
-use Rattle.cable_definitions.specs.Tree.{Node, Kept, WasFull, mark_in, marks_of, worked, IsBound, IsDead, IsActed, IsWorked}
+use Rattle.cable_definitions.specs.Tree.{Node, ProofState, WasFull, mark_in, marks_of, worked, IsBound, IsDead, IsActed, IsWorked}
 use Rattle.cable_definitions.specs.Refusal.{IsWorkable, IsActRefused, IsWorkRefused, cause_number, IsLeastCause}
 use Rattle.proof_laws.proofs.NearestValue.{value-same, bound-same}
 use Rattle.branch_tree.specs.State.{TreeState, nodes_after, tree_after, ActIsWithin}
@@ -35,7 +35,7 @@ act_within s arcs rows marks bound after act h a e =
     slice_get_within marks a Free f.0
 
 -- ---- a work that is done
-acted : (s : Site) (arcs : List CandidateArc) (kept : Kept) (v : ℕ) (node : Node) (value : ℤ) (bound after : ℕ) (act : Act)
+acted : (s : Site) (arcs : List CandidateArc) (kept : ProofState) (v : ℕ) (node : Node) (value : ℤ) (bound after : ℕ) (act : Act)
     → IsBound node.bound value bound → MayAct s arcs kept.rows (marks_of arcs kept.nodes v) bound act after
     → IsActed s arcs kept v node value act (nodes_after kept.nodes v node act after)
 acted s arcs kept v node value bound after (Split a) b may = (after, subst (IsBound node.bound value) (sym may.1) b, may.0, refl)
@@ -81,7 +81,7 @@ own_cause s arcs rows marks bound FullAct Full h = refl
 own_cause s arcs rows marks bound act cause h = absurd h
 
 -- an act is refused for no cause before its own
-earlier_act : (s : Site) (arcs : List CandidateArc) (kept : Kept) (v : ℕ) (weights : List (ℕ × ℤ)) (act : Act) (other : Cause)
+earlier_act : (s : Site) (arcs : List CandidateArc) (kept : ProofState) (v : ℕ) (weights : List (ℕ × ℤ)) (act : Act) (other : Cause)
     → cause_number other < own_number act → ¬ (IsActRefused s arcs kept v weights act other)
 unfolding own_number
 earlier_act s arcs kept v weights (Split a) ArcCause l h = absurd (omega (arith, l))
@@ -93,7 +93,7 @@ earlier_act s arcs kept v weights FullAct Full l h = absurd (omega (arith, l))
 earlier_act s arcs kept v weights FullAct other l h = absurd h
 
 -- no cause comes before that of the act
-earlier_work : (s : Site) (arcs : List CandidateArc) (n : ℕ) (kept : Kept) (v : ℕ) (weights : List (ℕ × ℤ)) (act : Act) (node : Node) → kept.works < n → IsWorkable kept v node
+earlier_work : (s : Site) (arcs : List CandidateArc) (n : ℕ) (kept : ProofState) (v : ℕ) (weights : List (ℕ × ℤ)) (act : Act) (node : Node) → kept.works < n → IsWorkable kept v node
     → AreLawful kept.rows weights → length weights ≤ 1024 → (other : Cause) → cause_number other < own_number act → ¬ (IsWorkRefused s arcs n kept v weights act other)
 earlier_work s arcs n kept v weights act node room w lawful few Limit l (inl h) = omega (arith, h, room)
 earlier_work s arcs n kept v weights act node room w lawful few Limit l (inr h) = omega (arith, h, few)
@@ -110,7 +110,7 @@ weight_first (DeadAct why) other l = omega (arith, l)
 weight_first FullAct other l = omega (arith, l)
 
 -- a work whose weights aren't lawful is refused for them
-pub weights_refused : (s : Site) (arcs : List CandidateArc) (n : ℕ) (kept : Kept) (v : ℕ) (weights : List (ℕ × ℤ)) (act : Act) (node : Node) → kept.works < n → IsWorkable kept v node
+pub weights_refused : (s : Site) (arcs : List CandidateArc) (n : ℕ) (kept : ProofState) (v : ℕ) (weights : List (ℕ × ℤ)) (act : Act) (node : Node) → kept.works < n → IsWorkable kept v node
     → length weights ≤ 1024 → ¬ (AreLawful kept.rows weights) → IsLeastCause (IsWorkRefused s arcs n kept v weights act) Weight
 weights_refused s arcs n kept v weights act node room w few unlawful = record { holds = unlawful; least = earlier }
   where
@@ -122,7 +122,7 @@ weights_refused s arcs n kept v weights act node room w few unlawful = record { 
     earlier other l h = earlier_act s arcs kept v weights act other (weight_first act other l) h
 
 -- a reason that isn't true with the new bound is true with no bound that the work may give
-not_dead : (s : Site) (arcs : List CandidateArc) (kept : Kept) (v : ℕ) (weights : List (ℕ × ℤ)) (node : Node) (value : ℤ) (bound : ℕ) (d : Node) (e : ℤ) (b : ℕ)
+not_dead : (s : Site) (arcs : List CandidateArc) (kept : ProofState) (v : ℕ) (weights : List (ℕ × ℤ)) (node : Node) (value : ℤ) (bound : ℕ) (d : Node) (e : ℤ) (b : ℕ)
     → IsWorkable kept v node → IsValue s arcs kept.rows (marks_of arcs kept.nodes v) weights value → IsBound node.bound value bound
     → IsWorkable kept v d → IsValue s arcs kept.rows (marks_of arcs kept.nodes v) weights e → IsBound d.bound e b → b ≡ bound
 not_dead s arcs kept v weights node value bound d e b w is k w2 is2 k2 =
@@ -131,7 +131,7 @@ not_dead s arcs kept v weights node value bound d e b w is k w2 is2 k2 =
     let first : IsBound node.bound e b = subst (λ (x : Node). IsBound x.bound e b) same k2 in
     bound-same node.bound value b bound (subst (λ (z : ℤ). IsBound node.bound z b) values first) k
 
-held : (s : Site) (arcs : List CandidateArc) (n : ℕ) (kept : Kept) (v : ℕ) (weights : List (ℕ × ℤ)) (act : Act) (cause : Cause) (node : Node) (value : ℤ) (bound : ℕ)
+held : (s : Site) (arcs : List CandidateArc) (n : ℕ) (kept : ProofState) (v : ℕ) (weights : List (ℕ × ℤ)) (act : Act) (cause : Cause) (node : Node) (value : ℤ) (bound : ℕ)
     → IsWorkable kept v node → IsValue s arcs kept.rows (marks_of arcs kept.nodes v) weights value → IsBound node.bound value bound
     → MayNotAct s arcs kept.rows (marks_of arcs kept.nodes v) bound act cause → IsWorkRefused s arcs n kept v weights act cause
 held s arcs n kept v weights (Split a) ArcCause node value bound w is b h = h
@@ -142,7 +142,7 @@ held s arcs n kept v weights FullAct Full node value bound w is b h = h
 held s arcs n kept v weights act cause node value bound w is b h = absurd h
 
 -- a work with lawful weights whose act may not be done is refused for that
-pub work_refused : (s : Site) (arcs : List CandidateArc) (n : ℕ) (kept : Kept) (v : ℕ) (weights : List (ℕ × ℤ)) (act : Act) (cause : Cause) (node : Node) (value : ℤ) (bound : ℕ)
+pub work_refused : (s : Site) (arcs : List CandidateArc) (n : ℕ) (kept : ProofState) (v : ℕ) (weights : List (ℕ × ℤ)) (act : Act) (cause : Cause) (node : Node) (value : ℤ) (bound : ℕ)
     → kept.works < n → IsWorkable kept v node → AreLawful kept.rows weights → length weights ≤ 1024 → IsValue s arcs kept.rows (marks_of arcs kept.nodes v) weights value → IsBound node.bound value bound
     → MayNotAct s arcs kept.rows (marks_of arcs kept.nodes v) bound act cause → IsLeastCause (IsWorkRefused s arcs n kept v weights act) cause
 work_refused s arcs n kept v weights act cause node value bound room w lawful few is b h = record {

@@ -4,19 +4,19 @@ use Rattle.std.specs.Prelude.{IsTrue}
 use Rattle.std.specs.Int.{w128}
 use Rattle.std.proofs.lemmas.Int.{ints, to_z-of_z}
 use Rattle.std.proofs.lemmas.Bool.{eqb-true}
-use Rattle.cable_definitions.specs.Tree.{Kept, Node, is_open_leaf, IsLeastBound, AllDead}
+use Rattle.cable_definitions.specs.Tree.{ProofState, Node, is_open_leaf, IsLeastBound, AllDead}
 use Rattle.layout_laws.proofs.Typing.{all-at}
 use Rattle.proof_laws.proofs.Lists.{any_at}
 
 -- ---- the least bound
 -- where there is a least bound, some leaf isn't dead
-pub not_all_dead : (kept : Kept) (bound : ℕ) → IsLeastBound kept bound → ¬ (AllDead kept)
+pub not_all_dead : (kept : ProofState) (bound : ℕ) → IsLeastBound kept bound → ¬ (AllDead kept)
 not_all_dead kept bound l dead =
     let a = any_at (λ (v : Node). IsTrue (is_open_leaf v.status) × (v.bound ≡ bound)) kept.nodes l.reached in
     all-at (λ (v : Node). ¬ IsTrue (is_open_leaf v.status)) kept.nodes a.0 a.1 dead a.2 a.3.0
 
 -- there is one least bound
-pub least_one : (kept : Kept) (a b : ℕ) → IsLeastBound kept a → IsLeastBound kept b → a ≡ b
+pub least_one : (kept : ProofState) (a b : ℕ) → IsLeastBound kept a → IsLeastBound kept b → a ≡ b
 least_one kept a b l m =
     let p = any_at (λ (v : Node). IsTrue (is_open_leaf v.status) × (v.bound ≡ a)) kept.nodes l.reached in
     let q = any_at (λ (v : Node). IsTrue (is_open_leaf v.status) × (v.bound ≡ b)) kept.nodes m.reached in

@@ -5,7 +5,7 @@ use Rattle.cable_definitions.specs.declared.claim.Cause.{Cause}
 use Rattle.cable_definitions.specs.Site.{Site}
 use Rattle.cable_definitions.specs.Arcs.{AreArcs}
 use Rattle.cable_definitions.specs.Row.{Row}
-use Rattle.cable_definitions.specs.Tree.{Kept}
+use Rattle.cable_definitions.specs.Tree.{ProofState}
 use Rattle.cable_definitions.specs.Refusal.{IsLeastCause}
 use Rattle.cable_definitions.specs.declared.claim.Refusal.{Refusal}
 use Rattle.branch_tree.specs.State.{TreeState}
@@ -15,11 +15,11 @@ pub record CheckerState : Type 0 where
   pub site : Site
   pub arcs : List Arc
   pub budget : ℕ
-  pub kept : Kept
+  pub kept : ProofState
   pub refused : Option Refusal
 
 -- what these rows and this tree keep
-abbrev pub kept_from : List Row → TreeState → Kept
+abbrev pub kept_from : List Row → TreeState → ProofState
 kept_from rows tree = record { rows = rows; nodes = tree.nodes; works = tree.works }
 
 -- the arcs are those of the site, the tree is for them and for the budget, and there is a mark for each arc

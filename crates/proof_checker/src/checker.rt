@@ -1,11 +1,11 @@
 ghost use Rattle.std.specs.Prelude.{◌≡◌, ℕ, ◌≤◌, List, [], None, Some, IfOk, OnOk, IfErr};
 ghost use Rattle.cable_definitions.specs.declared.claim.Cause.{Cause as AnyCause};
 ghost use Rattle.cable_definitions.specs.Arcs.{AreArcs};
-ghost use Rattle.cable_definitions.specs.Tree.{Item, RowItem, WorkItem, nothing_kept, Accepts, IsAccepted, Agrees, Says};
+ghost use Rattle.cable_definitions.specs.Tree.{Item, RowItem, WorkItem, empty_state, Accepts, IsAccepted, Agrees, Says};
 ghost use Rattle.cable_definitions.specs.Refusal.{IsRowRefused, IsWorkRefused, IsClaimRefused};
 ghost use Rattle.cable_definitions.specs.declared.claim.Refusal.{Refusal as AnyRefusal};
 ghost use Rattle.proof_checker.specs.State.{Refuses};
-ghost use Rattle.proof_checker.specs.Answers.{IsBoundOf};
+ghost use Rattle.proof_checker.specs.Answers.{IsClosingBound};
 
 use crate::claims::{Bound, check_claim};
 use crate::rows::list_row;
@@ -67,7 +67,7 @@ impl<'a> Checker<'a> {
         ensures site { IfOk result (λ checker. checker.site ≡ site.now) }
         ensures arcs { IfOk result (λ checker. AreArcs site.now checker.arcs) }
         ensures budget { IfOk result (λ checker. checker.budget ≡ budget) }
-        ensures kept { IfOk result (λ checker. checker.kept ≡ nothing_kept) }
+        ensures kept { IfOk result (λ checker. checker.kept ≡ empty_state) }
         ensures refused { IfOk result (λ checker. checker.refused ≡ None) }
     {
         let arcs = Arcs::new(alloc, site)?;
@@ -160,7 +160,7 @@ impl<'a> Checker<'a> {
     /// that aren't as many as the budget.
     pub fn close(&mut self, line: u64, layout: &Layout, claim: Claim) -> Result<Bound, Refusal>
         ensures agrees { OnOk result (Agrees self.old.site self.old.budget self.old.kept layout.now claim) }
-        ensures bound { IfOk result (IsBoundOf self.old.kept) }
+        ensures bound { IfOk result (IsClosingBound self.old.kept) }
         ensures says { OnOk result ((items : List Item) → IsAccepted self.old.site self.old.arcs self.old.budget items self.old.kept
             → Says self.old.site claim) }
         ensures no_cause { OnOk result ((cause : AnyCause) → ¬ (IsClaimRefused self.old.site self.old.budget self.old.kept layout.now claim cause)) }

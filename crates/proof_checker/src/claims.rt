@@ -3,10 +3,10 @@
 ghost use Rattle.std.specs.Prelude.{◌≡◌, ℕ, ◌≤◌, List, ◌↔◌, IsTrue, OnOk, IfOk, IfErr};
 ghost use Rattle.cable_definitions.specs.Layout.{IsLegal, cost as cost_of};
 ghost use Rattle.cable_definitions.specs.Row.{Row};
-ghost use Rattle.cable_definitions.specs.Tree.{Kept as AnyKept, LayoutAgrees, BoundAgrees, Agrees, IsLeastBound, AllDead};
+ghost use Rattle.cable_definitions.specs.Tree.{ProofState as AnyKept, LayoutAgrees, BoundAgrees, Agrees, IsLeastBound, AllDead};
 ghost use Rattle.cable_definitions.specs.Refusal.{IsClaimRefused, IsLeastCause};
 ghost use Rattle.proof_checker.specs.State.{kept_from};
-ghost use Rattle.proof_checker.specs.Answers.{IsBoundOf};
+ghost use Rattle.proof_checker.specs.Answers.{IsClosingBound};
 
 use branch_tree::Tree;
 use cable_definitions::claim::{Cause, Claim};
@@ -96,7 +96,7 @@ fn bound_agrees(tree: &Tree, budget: u32, claim: Claim) -> bool
 
 /// What a claim says of all legal layouts.
 fn bound_of(claim: Claim) -> Bound
-    ensures { (n : ℕ) (kept : AnyKept) → BoundAgrees n kept claim → IsBoundOf kept result }
+    ensures { (n : ℕ) (kept : AnyKept) → BoundAgrees n kept claim → IsClosingBound kept result }
 {
     match claim {
         Claim::Optimal(cost) => Bound::Least(cost),
@@ -119,7 +119,7 @@ pub(crate) fn check_claim(
     claim: Claim,
 ) -> Result<Bound, Cause>
     ensures agrees { OnOk result ((rows : List Row) → Agrees site.now budget (kept_from rows tree.now) layout.now claim) }
-    ensures bound { IfOk result (λ bound. (rows : List Row) → IsBoundOf (kept_from rows tree.now) bound) }
+    ensures bound { IfOk result (λ bound. (rows : List Row) → IsClosingBound (kept_from rows tree.now) bound) }
     ensures refused { IfErr result (λ cause. (rows : List Row) → IsLeastCause (IsClaimRefused site.now budget (kept_from rows tree.now) layout.now claim) cause) }
 {
     if !layout_agrees(site, layout, claim) {

@@ -14,13 +14,13 @@ use Rattle.cable_definitions.specs.Arcs.{AreArcs}
 use Rattle.cable_definitions.specs.Layout.{cost}
 use Rattle.cable_definitions.specs.Row.{has_arc}
 use Rattle.cable_definitions.specs.Choice.{IsKept, IsInBox}
-use Rattle.cable_definitions.specs.Tree.{Status, WasSplit, Stopped, WasDead, WasFull, Node, Item, RowItem, WorkItem, Kept, root, nothing_kept, mark_in, marks_of, worked, IsActed, IsWorked, Accepts, Leads, IsAccepted}
+use Rattle.cable_definitions.specs.Tree.{Status, WasSplit, Stopped, WasDead, WasFull, Node, Item, RowItem, WorkItem, ProofState, root, empty_state, mark_in, marks_of, worked, IsActed, IsWorked, Accepts, Leads, IsAccepted}
 use Rattle.proof_laws.proofs.Lists.{some_at}
 use Rattle.proof_laws.proofs.Boxes.{marks-box, marks_of-at, AreParentsBefore, AreStillMade, still_made, mark_in-still, box-still, IsChild, mark_in-child_is, box-of_child, box-keeps}
 use Rattle.proof_laws.proofs.Sound.{sound-accepted, IsReplaced, children, split_nodes, replaced-set, replaced-split, replaced-still, split-child, set_at_node}
 
 -- an act replaces the node
-pub acted-replaced : (s : Site) (arcs : List Arc) (old : Kept) (i : ℕ) (node : Node) (value : ℤ) (act : Act) (nodes : List Node) → slice_get old.nodes i ≡ Some node
+pub acted-replaced : (s : Site) (arcs : List Arc) (old : ProofState) (i : ℕ) (node : Node) (value : ℤ) (act : Act) (nodes : List Node) → slice_get old.nodes i ≡ Some node
     → IsActed s arcs old (suc i) node value act nodes → (bound : ℕ) × (status : Status) × IsReplaced old.nodes nodes i node bound status
 acted-replaced s arcs old i node value (Split a) nodes e acted = (
   acted.0,
@@ -46,7 +46,7 @@ acted-replaced s arcs old i node value Full nodes e acted = (
 )
 
 -- an item leaves the old nodes made
-pub still-accepts : (s : Site) (arcs : List Arc) (n : ℕ) (old new : Kept) (item : Item) → Accepts s arcs n old item new → AreStillMade old.nodes new.nodes
+pub still-accepts : (s : Site) (arcs : List Arc) (n : ℕ) (old new : ProofState) (item : Item) → Accepts s arcs n old item new → AreStillMade old.nodes new.nodes
 still-accepts s arcs n old new (RowItem row) l = subst (AreStillMade old.nodes) (sym l.nodes) (still_made old.nodes)
 still-accepts s arcs n old new (WorkItem zero weights act) w = absurd (let e = w.made in cc)
 still-accepts s arcs n old new (WorkItem (suc i) weights act) w =
@@ -54,17 +54,17 @@ still-accepts s arcs n old new (WorkItem (suc i) weights act) w =
     replaced-still old.nodes new.nodes i w.node r.0 r.1 r.2
 
 -- so do further items
-pub still-leads : (s : Site) (arcs : List Arc) (n : ℕ) (items : List Item) (old new : Kept) → Leads s arcs n old items new → AreStillMade old.nodes new.nodes
-still-leads s arcs n [] old new l = subst (AreStillMade old.nodes) (sym (ap (λ (k : Kept). k.nodes) l)) (still_made old.nodes)
+pub still-leads : (s : Site) (arcs : List Arc) (n : ℕ) (items : List Item) (old new : ProofState) → Leads s arcs n old items new → AreStillMade old.nodes new.nodes
+still-leads s arcs n [] old new l = subst (AreStillMade old.nodes) (sym (ap (λ (k : ProofState). k.nodes) l)) (still_made old.nodes)
 still-leads s arcs n (item ∷ items) old new l = λ i x e.
     let a = still-accepts s arcs n old l.0 item l.1 i x e in
     let b = still-leads s arcs n items l.0 new l.2 i a.node a.made in
     record { node = b.node; made = b.made; parent = b.parent ∙ a.parent; arc = b.arc ∙ a.arc; mark = b.mark ∙ a.mark }
 
 -- node 1's box holds every list of cables
-pub first-box : (s : Site) (arcs : List Arc) (n : ℕ) (items : List Item) (kept : Kept) → IsAccepted s arcs n items kept → (cables : List Cable) → IsInBox arcs (marks_of arcs kept.nodes 1) cables
+pub first-box : (s : Site) (arcs : List Arc) (n : ℕ) (items : List Item) (kept : ProofState) → IsAccepted s arcs n items kept → (cables : List Cable) → IsInBox arcs (marks_of arcs kept.nodes 1) cables
 first-box s arcs n items kept accepted cables =
-    box-still arcs (root ∷ []) kept.nodes 1 cables before (still-leads s arcs n items nothing_kept kept accepted) (omega arith)
+    box-still arcs (root ∷ []) kept.nodes 1 cables before (still-leads s arcs n items empty_state kept accepted) (omega arith)
     (marks-box arcs (root ∷ []) 1 cables (λ i a e. by_case (has_arc cables a) (0 == i)))
   where
     before : AreParentsBefore (root ∷ [])
@@ -81,7 +81,7 @@ marks-still arcs old new v up still h =
     ap (λ (f : ℕ → Mark). map (λ (x : ℕ × Arc). f x.0) (enumerate_from 0 arcs)) (λ i a. sym (mark_in-still old new up still a v v v (omega arith) (omega arith) h) i)
 
 -- later items change no mark of a made node
-pub marks-later : (s : Site) (arcs : List Arc) (n : ℕ) (items more : List Item) (old new : Kept) → IsValid s → AreArcs s arcs → IsAccepted s arcs n items old → Leads s arcs n old more new
+pub marks-later : (s : Site) (arcs : List Arc) (n : ℕ) (items more : List Item) (old new : ProofState) → IsValid s → AreArcs s arcs → IsAccepted s arcs n items old → Leads s arcs n old more new
     → (v : ℕ) → v ≤ length old.nodes → marks_of arcs new.nodes v ≡ marks_of arcs old.nodes v
 marks-later s arcs n items more old new valid are accepted l v h =
     marks-still arcs old.nodes new.nodes v (sound-accepted s arcs n items old valid are accepted).nodes.parents (still-leads s arcs n more old new l) h
@@ -119,14 +119,14 @@ marks-child arcs old new j v arc mark up still c =
     ∙ marks-set (λ a. mark_in v old a v) mark arc 0 arcs
 
 -- A work that splits a node, with the children that it makes.
-pub record IsDivided (s : Site) (arcs : List Arc) (old new : Kept) (v a : ℕ) : Type 0 where
+pub record IsDivided (s : Site) (arcs : List Arc) (old new : ProofState) (v a : ℕ) : Type 0 where
   pub parents : AreParentsBefore old.nodes
   pub still : AreStillMade old.nodes new.nodes
   pub used : IsChild old.nodes new.nodes (length old.nodes) v a Used
   pub unused : IsChild old.nodes new.nodes (length old.nodes + 1) v a Unused
 
 -- a split work divides
-pub divided : (s : Site) (arcs : List Arc) (n : ℕ) (items : List Item) (old new : Kept) (v : ℕ) (weights : List (ℕ × ℤ)) (a : ℕ) → IsValid s → AreArcs s arcs → IsAccepted s arcs n items old
+pub divided : (s : Site) (arcs : List Arc) (n : ℕ) (items : List Item) (old new : ProofState) (v : ℕ) (weights : List (ℕ × ℤ)) (a : ℕ) → IsValid s → AreArcs s arcs → IsAccepted s arcs n items old
     → IsWorked s arcs n old v weights (Split a) new → IsDivided s arcs old new v a
 divided s arcs n items old new zero weights a valid are accepted w = absurd (let e = w.made in cc)
 divided s arcs n items old new (suc i) weights a valid are accepted w =
@@ -145,11 +145,11 @@ divided s arcs n items old new (suc i) weights a valid are accepted w =
     }
 
 -- the arc of a child is one of the list
-split-arc : (s : Site) (arcs : List Arc) (n : ℕ) (old new : Kept) (v : ℕ) (weights : List (ℕ × ℤ)) (a : ℕ) → IsWorked s arcs n old v weights (Split a) new → (arc : Arc) × (slice_get arcs a ≡ Some arc)
+split-arc : (s : Site) (arcs : List Arc) (n : ℕ) (old new : ProofState) (v : ℕ) (weights : List (ℕ × ℤ)) (a : ℕ) → IsWorked s arcs n old v weights (Split a) new → (arc : Arc) × (slice_get arcs a ≡ Some arc)
 split-arc s arcs n old new v weights a w = some_at arcs a (marks_of-at arcs old.nodes v a Free w.acted.2).0
 
 -- a layout in the box of a node that is split is in the box of exactly one of the children
-pub split-boxes : (s : Site) (arcs : List Arc) (old new : Kept) (v a : ℕ) → IsDivided s arcs old new v a → (arc : Arc) → slice_get arcs a ≡ Some arc
+pub split-boxes : (s : Site) (arcs : List Arc) (old new : ProofState) (v a : ℕ) → IsDivided s arcs old new v a → (arc : Arc) → slice_get arcs a ≡ Some arc
     → (cables : List Cable) → IsInBox arcs (marks_of arcs old.nodes v) cables
     → (IsInBox arcs (marks_of arcs new.nodes (suc (length old.nodes))) cables × ¬ IsInBox arcs (marks_of arcs new.nodes (suc (length old.nodes + 1))) cables)
     ⊎ ((¬ IsInBox arcs (marks_of arcs new.nodes (suc (length old.nodes))) cables) × IsInBox arcs (marks_of arcs new.nodes (suc (length old.nodes + 1))) cables)
@@ -172,7 +172,7 @@ split-boxes s arcs old new v a d arc e cables box = by_use (has_arc cables arc) 
     )
 
 -- the first child of a split work has the node's marks, with the arc used
-pub used-child : (s : Site) (arcs : List Arc) (n : ℕ) (items : List Item) (old new : Kept) (v a : ℕ) (weights : List (ℕ × ℤ)) → IsValid s → AreArcs s arcs → IsAccepted s arcs n items old
+pub used-child : (s : Site) (arcs : List Arc) (n : ℕ) (items : List Item) (old new : ProofState) (v a : ℕ) (weights : List (ℕ × ℤ)) → IsValid s → AreArcs s arcs → IsAccepted s arcs n items old
     → IsWorked s arcs n old v weights (Split a) new → marks_of arcs new.nodes (length old.nodes + 1) ≡ slice_set (marks_of arcs old.nodes v) a Used
 used-child s arcs n items old new v a weights valid are accepted w =
     let d = divided s arcs n items old new v weights a valid are accepted w in
@@ -180,7 +180,7 @@ used-child s arcs n items old new v a weights valid are accepted w =
     ∙ marks-child arcs old.nodes new.nodes (length old.nodes) v a Used d.parents d.still d.used
 
 -- the second has them with the arc unused
-pub unused-child : (s : Site) (arcs : List Arc) (n : ℕ) (items : List Item) (old new : Kept) (v a : ℕ) (weights : List (ℕ × ℤ)) → IsValid s → AreArcs s arcs → IsAccepted s arcs n items old
+pub unused-child : (s : Site) (arcs : List Arc) (n : ℕ) (items : List Item) (old new : ProofState) (v a : ℕ) (weights : List (ℕ × ℤ)) → IsValid s → AreArcs s arcs → IsAccepted s arcs n items old
     → IsWorked s arcs n old v weights (Split a) new → marks_of arcs new.nodes (length old.nodes + 2) ≡ slice_set (marks_of arcs old.nodes v) a Unused
 unused-child s arcs n items old new v a weights valid are accepted w =
     let d = divided s arcs n items old new v weights a valid are accepted w in
@@ -188,7 +188,7 @@ unused-child s arcs n items old new v a weights valid are accepted w =
     ∙ marks-child arcs old.nodes new.nodes (length old.nodes + 1) v a Unused d.parents d.still d.unused
 
 -- and a layout in the node's box is in the box of exactly one of them
-pub one-child : (s : Site) (arcs : List Arc) (n : ℕ) (items : List Item) (old new : Kept) (v a : ℕ) (weights : List (ℕ × ℤ)) (cables : List Cable) → IsValid s → AreArcs s arcs
+pub one-child : (s : Site) (arcs : List Arc) (n : ℕ) (items : List Item) (old new : ProofState) (v a : ℕ) (weights : List (ℕ × ℤ)) (cables : List Cable) → IsValid s → AreArcs s arcs
     → IsAccepted s arcs n items old → IsWorked s arcs n old v weights (Split a) new → IsInBox arcs (marks_of arcs old.nodes v) cables
     → (IsInBox arcs (marks_of arcs new.nodes (length old.nodes + 1)) cables × (¬ IsInBox arcs (marks_of arcs new.nodes (length old.nodes + 2)) cables))
     ⊎ ((¬ IsInBox arcs (marks_of arcs new.nodes (length old.nodes + 1)) cables) × IsInBox arcs (marks_of arcs new.nodes (length old.nodes + 2)) cables)

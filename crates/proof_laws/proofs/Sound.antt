@@ -17,8 +17,8 @@ use Rattle.cable_definitions.specs.Arcs.{AreArcs}
 use Rattle.cable_definitions.specs.Layout.{IsLegal, cost, Least, HasNone}
 use Rattle.cable_definitions.specs.Row.{Row, has_arc, IsWellFormed}
 use Rattle.cable_definitions.specs.Choice.{IsKept, IsInBox, AreLawful, IsValue}
-use Rattle.cable_definitions.specs.Tree.{Status, WasSplit, Stopped, WasDead, WasFull, Node, Item, RowItem, WorkItem, Kept, root, nothing_kept, node_of, marks_of, IsBound, worked, child, IsActed, IsWorked, IsListed, Accepts, Leads, IsAccepted, is_open_leaf, IsLeastBound, AllDead, Agrees, Says}
-use Rattle.cable_definitions.specs.Document.{Yes}
+use Rattle.cable_definitions.specs.Tree.{Status, WasSplit, Stopped, WasDead, WasFull, Node, Item, RowItem, WorkItem, ProofState, root, empty_state, node_of, marks_of, IsBound, worked, child, IsActed, IsWorked, IsListed, Accepts, Leads, IsAccepted, is_open_leaf, IsLeastBound, AllDead, Agrees, Says}
+use Rattle.cable_definitions.specs.Document.{IsAcceptedDocument}
 use Rattle.layout_laws.proofs.Typing.{all-at}
 use Rattle.proof_laws.proofs.Lists.{some_at}
 use Rattle.proof_laws.proofs.DeadNodes.{none-dead}
@@ -45,12 +45,12 @@ pub record AreSound (s : Site) (arcs : List Arc) (nodes : List Node) : Type 0 wh
   pub cover : (cables : List Cable) → IsLegal s cables → IsCovered arcs nodes cables
 
 -- what accepted items keep
-pub record IsSound (s : Site) (arcs : List Arc) (kept : Kept) : Type 0 where
+pub record IsSound (s : Site) (arcs : List Arc) (kept : ProofState) : Type 0 where
   pub well_formed : All (IsWellFormed s arcs) kept.rows
   pub nodes : AreSound s arcs kept.nodes
 
 -- it holds before the first item
-pub sound-nothing : (s : Site) (arcs : List Arc) → IsSound s arcs nothing_kept
+pub sound-nothing : (s : Site) (arcs : List Arc) → IsSound s arcs empty_state
 sound-nothing s arcs = record {
   well_formed = λ k d l. absurd (omega arith);
   nodes = record {
@@ -73,7 +73,7 @@ sound-nothing s arcs = record {
     by_case b false = tt
 
 -- a row that is listed is well formed, and changes no node
-sound-listed : (s : Site) (arcs : List Arc) (old new : Kept) (row : Row) → IsSound s arcs old → IsListed s arcs old row new → IsSound s arcs new
+sound-listed : (s : Site) (arcs : List Arc) (old new : ProofState) (row : Row) → IsSound s arcs old → IsListed s arcs old row new → IsSound s arcs new
 sound-listed s arcs old new row sound l = record {
   well_formed = subst (All (IsWellFormed s arcs)) (sym l.rows) (All-push (IsWellFormed s arcs) old.rows row sound.well_formed l.well_formed);
   nodes = subst (AreSound s arcs) (sym l.nodes) sound.nodes;
@@ -285,7 +285,7 @@ sound-split s arcs old i a node bound sound e holds free = record {
         (λ x h u. let f : Some arc.0 ≡ Some x = sym arc.1 ∙ h in let same : arc.0 ≡ x = cc in let q : true ≡ false = sym u ∙ sym (ap (has_arc cables) same) ∙ t in cc)
 
 -- the bound of a worked node holds in its box
-bound-holds : (s : Site) (arcs : List Arc) (old : Kept) (i : ℕ) (node : Node) (weights : List (ℕ × ℤ)) (value : ℤ) (bound : ℕ) → IsValid s → AreArcs s arcs → IsSound s arcs old
+bound-holds : (s : Site) (arcs : List Arc) (old : ProofState) (i : ℕ) (node : Node) (weights : List (ℕ × ℤ)) (value : ℤ) (bound : ℕ) → IsValid s → AreArcs s arcs → IsSound s arcs old
     → slice_get old.nodes i ≡ Some node → AreLawful old.rows weights → IsValue s arcs old.rows (marks_of arcs old.nodes (suc i)) weights value → IsBound node.bound value bound
     → IsBoundIn s arcs old.nodes (suc i) bound
 bound-holds s arcs old i node weights value bound v are sound e lawful is b cables g box =
@@ -296,7 +296,7 @@ pub set_at_node : (i : ℕ) (xs : List Node) (y : Node) → slice_set xs (suc i 
 set_at_node i xs y = ap (λ (k : ℕ). slice_set xs k y) (let q : suc i - 1 ≡ i = omega arith in q)
 
 -- an act keeps the nodes sound
-sound-acted : (s : Site) (arcs : List Arc) (old : Kept) (i : ℕ) (node : Node) (weights : List (ℕ × ℤ)) (value : ℤ) (act : Act) (nodes : List Node) → IsValid s → AreArcs s arcs → IsSound s arcs old
+sound-acted : (s : Site) (arcs : List Arc) (old : ProofState) (i : ℕ) (node : Node) (weights : List (ℕ × ℤ)) (value : ℤ) (act : Act) (nodes : List Node) → IsValid s → AreArcs s arcs → IsSound s arcs old
     → slice_get old.nodes i ≡ Some node → AreLawful old.rows weights → IsValue s arcs old.rows (marks_of arcs old.nodes (suc i)) weights value
     → IsActed s arcs old (suc i) node value act nodes → AreSound s arcs nodes
 sound-acted s arcs old i node weights value (Split a) nodes v are sound e lawful is acted =
@@ -315,7 +315,7 @@ sound-acted s arcs old i node weights value Full nodes v are sound e lawful is a
     (sound-replaced s arcs old.nodes i node (cost s acted.0) WasFull sound.nodes e (λ cables g b. full-cost s arcs (marks_of arcs old.nodes (suc i)) acted.0 cables acted.1 g b) (λ cables g b. refl))
 
 -- a work keeps what accepted items keep
-sound-worked : (s : Site) (arcs : List Arc) (n : ℕ) (old new : Kept) (v : ℕ) (weights : List (ℕ × ℤ)) (act : Act) → IsValid s → AreArcs s arcs → IsSound s arcs old
+sound-worked : (s : Site) (arcs : List Arc) (n : ℕ) (old new : ProofState) (v : ℕ) (weights : List (ℕ × ℤ)) (act : Act) → IsValid s → AreArcs s arcs → IsSound s arcs old
     → IsWorked s arcs n old v weights act new → IsSound s arcs new
 sound-worked s arcs n old new zero weights act valid are sound w = absurd (let e = w.made in cc)
 sound-worked s arcs n old new (suc i) weights act valid are sound w = record {
@@ -324,21 +324,21 @@ sound-worked s arcs n old new (suc i) weights act valid are sound w = record {
 }
 
 -- so does each item, ..
-pub sound-accepts : (s : Site) (arcs : List Arc) (n : ℕ) (old new : Kept) (item : Item) → IsValid s → AreArcs s arcs → IsSound s arcs old → Accepts s arcs n old item new → IsSound s arcs new
+pub sound-accepts : (s : Site) (arcs : List Arc) (n : ℕ) (old new : ProofState) (item : Item) → IsValid s → AreArcs s arcs → IsSound s arcs old → Accepts s arcs n old item new → IsSound s arcs new
 sound-accepts s arcs n old new (RowItem row) v are sound a = sound-listed s arcs old new row sound a
 sound-accepts s arcs n old new (WorkItem u weights act) v are sound a = sound-worked s arcs n old new u weights act v are sound a
 
 -- .. and one item after another
-pub sound-leads : (s : Site) (arcs : List Arc) (n : ℕ) (items : List Item) (old new : Kept) → IsValid s → AreArcs s arcs → IsSound s arcs old → Leads s arcs n old items new → IsSound s arcs new
+pub sound-leads : (s : Site) (arcs : List Arc) (n : ℕ) (items : List Item) (old new : ProofState) → IsValid s → AreArcs s arcs → IsSound s arcs old → Leads s arcs n old items new → IsSound s arcs new
 sound-leads s arcs n [] old new v are sound l = subst (IsSound s arcs) (sym l) sound
 sound-leads s arcs n (item ∷ items) old new v are sound l = sound-leads s arcs n items l.0 new v are (sound-accepts s arcs n old l.0 item v are sound l.1) l.2
 
 -- what accepted items leave behind is sound
-pub sound-accepted : (s : Site) (arcs : List Arc) (n : ℕ) (items : List Item) (kept : Kept) → IsValid s → AreArcs s arcs → IsAccepted s arcs n items kept → IsSound s arcs kept
-sound-accepted s arcs n items kept v are a = sound-leads s arcs n items nothing_kept kept v are (sound-nothing s arcs) a
+pub sound-accepted : (s : Site) (arcs : List Arc) (n : ℕ) (items : List Item) (kept : ProofState) → IsValid s → AreArcs s arcs → IsAccepted s arcs n items kept → IsSound s arcs kept
+sound-accepted s arcs n items kept v are a = sound-leads s arcs n items empty_state kept v are (sound-nothing s arcs) a
 
 -- every legal layout costs at least the least bound of the open leaves
-pub least-sound : (s : Site) (arcs : List Arc) (kept : Kept) (bound : ℕ) → IsSound s arcs kept → IsLeastBound kept bound → Least s bound
+pub least-sound : (s : Site) (arcs : List Arc) (kept : ProofState) (bound : ℕ) → IsSound s arcs kept → IsLeastBound kept bound → Least s bound
 least-sound s arcs kept bound sound b cables g =
     let c = sound.nodes.cover cables g in
     let above : bound ≤ c.node.bound = all-at (λ (x : Node). IsTrue (is_open_leaf x.status) → bound ≤ x.bound) kept.nodes c.place c.node b.least c.made c.open_leaf in
@@ -346,24 +346,24 @@ least-sound s arcs kept bound sound b cables g =
     omega arith
 
 -- where all leaves are dead there is no legal layout
-pub none-sound : (s : Site) (arcs : List Arc) (kept : Kept) → IsSound s arcs kept → AllDead kept → HasNone s
+pub none-sound : (s : Site) (arcs : List Arc) (kept : ProofState) → IsSound s arcs kept → AllDead kept → HasNone s
 none-sound s arcs kept sound dead cables g =
     let c = sound.nodes.cover cables g in
     all-at (λ (x : Node). ¬ IsTrue (is_open_leaf x.status)) kept.nodes c.place c.node dead c.made c.open_leaf
 
 -- what a claim says is so, where it agrees with accepted items
-pub says-sound : (s : Site) (arcs : List Arc) (n : ℕ) (kept : Kept) (cables : List Cable) (claim : Claim) → IsSound s arcs kept → Agrees s n kept cables claim → Says s claim
+pub says-sound : (s : Site) (arcs : List Arc) (n : ℕ) (kept : ProofState) (cables : List Cable) (claim : Claim) → IsSound s arcs kept → Agrees s n kept cables claim → Says s claim
 says-sound s arcs n kept cables (Optimal c) sound a = least-sound s arcs kept c sound a.1
 says-sound s arcs n kept cables (Gap c b) sound a = least-sound s arcs kept b sound a.1.0
 says-sound s arcs n kept cables (Partial b stuck) sound a = least-sound s arcs kept b sound a.1.0
 says-sound s arcs n kept cables Infeasible sound a = none-sound s arcs kept sound a.1
 
 -- the bound of a node holds in its box
-pub bound-of_node : (s : Site) (arcs : List Arc) (kept : Kept) → IsSound s arcs kept → (v : ℕ) (node : Node) → node_of kept.nodes v ≡ Some node → IsBoundIn s arcs kept.nodes v node.bound
+pub bound-of_node : (s : Site) (arcs : List Arc) (kept : ProofState) → IsSound s arcs kept → (v : ℕ) (node : Node) → node_of kept.nodes v ≡ Some node → IsBoundIn s arcs kept.nodes v node.bound
 bound-of_node s arcs kept sound zero node e = absurd (cc)
 bound-of_node s arcs kept sound (suc i) node e = sound.nodes.bounds i node e
 
 -- what an accepted document claims is so
-pub says-document : (bytes : List ℕ) (s : Site) (claim : Claim) → Yes bytes s claim → Says s claim
+pub says-document : (bytes : List ℕ) (s : Site) (claim : Claim) → IsAcceptedDocument bytes s claim → Says s claim
 says-document bytes s claim y =
     says-sound s y.arcs y.budget y.kept y.cables claim (sound-accepted s y.arcs y.budget y.items y.kept y.valid y.are_arcs y.accepted) y.agrees

@@ -16,7 +16,7 @@ use Rattle.cable_definitions.specs.Site.{Site, IsValid}
 use Rattle.cable_definitions.specs.Arcs.{AreArcs}
 use Rattle.cable_definitions.specs.Layout.{cost}
 use Rattle.cable_definitions.specs.Budget.{enough_budget}
-use Rattle.cable_definitions.specs.Tree.{Status, Unworked, WasSplit, Stopped, WasDead, WasFull, Node, Item, RowItem, WorkItem, Kept, root, nothing_kept, node_of, mark_in, marks_of, worked, child, IsActed, Accepts, Leads, IsAccepted}
+use Rattle.cable_definitions.specs.Tree.{Status, Unworked, WasSplit, Stopped, WasDead, WasFull, Node, Item, RowItem, WorkItem, ProofState, root, empty_state, node_of, mark_in, marks_of, worked, child, IsActed, Accepts, Leads, IsAccepted}
 use Rattle.number_laws.proofs.NatSums.{sum_by-same_on}
 use Rattle.number_laws.proofs.Places.{slice_get-enumerate_from}
 use Rattle.proof_laws.specs.WorksLeft.{is_free, free_in, works_below, works_left}
@@ -170,7 +170,7 @@ left-split arcs old i a node bound up e unworked free =
         omega (arith, one, two, c, d, h, double, next, some)
 
 -- a work takes one of what is left, or more
-left-acted : (s : Site) (arcs : List Arc) (old : Kept) (i : ℕ) (node : Node) (value : ℤ) (act : Act) (nodes : List Node) → AreParentsBefore old.nodes → slice_get old.nodes i ≡ Some node
+left-acted : (s : Site) (arcs : List Arc) (old : ProofState) (i : ℕ) (node : Node) (value : ℤ) (act : Act) (nodes : List Node) → AreParentsBefore old.nodes → slice_get old.nodes i ≡ Some node
     → node.status ≡ Unworked → IsActed s arcs old (suc i) node value act nodes → 1 + works_left arcs nodes ≤ works_left arcs old.nodes
 left-acted s arcs old i node value (Split a) nodes up e unworked acted =
     let r = left-split arcs old.nodes i a node acted.0 up e unworked acted.2 in
@@ -190,7 +190,7 @@ left-acted s arcs old i node value Full nodes up e unworked acted =
     omega (arith, r, same)
 
 -- no item raises the sum of the works and of what is left, ..
-left-accepts : (s : Site) (arcs : List Arc) (n : ℕ) (old new : Kept) (item : Item) → AreParentsBefore old.nodes → Accepts s arcs n old item new
+left-accepts : (s : Site) (arcs : List Arc) (n : ℕ) (old new : ProofState) (item : Item) → AreParentsBefore old.nodes → Accepts s arcs n old item new
     → new.works + works_left arcs new.nodes ≤ old.works + works_left arcs old.nodes
 left-accepts s arcs n old new (RowItem row) up l =
     let same = ap (works_left arcs) l.nodes in
@@ -203,11 +203,11 @@ left-accepts s arcs n old new (WorkItem (suc i) weights act) up w =
     omega (arith, r, works)
 
 -- .. so accepted items don't
-left-leads : (s : Site) (arcs : List Arc) (n : ℕ) (items : List Item) (old new : Kept) → IsValid s → AreArcs s arcs → IsSound s arcs old → Leads s arcs n old items new
+left-leads : (s : Site) (arcs : List Arc) (n : ℕ) (items : List Item) (old new : ProofState) → IsValid s → AreArcs s arcs → IsSound s arcs old → Leads s arcs n old items new
     → new.works + works_left arcs new.nodes ≤ old.works + works_left arcs old.nodes
 left-leads s arcs n [] old new v are sound l =
-    let a = ap (λ (k : Kept). k.works) l in
-    let b = ap (λ (k : Kept). works_left arcs k.nodes) l in
+    let a = ap (λ (k : ProofState). k.works) l in
+    let b = ap (λ (k : ProofState). works_left arcs k.nodes) l in
     omega (arith, a, b)
 left-leads s arcs n (item ∷ items) old new v are sound l =
     let first = left-accepts s arcs n old l.0 item sound.nodes.parents l.1 in
@@ -215,10 +215,10 @@ left-leads s arcs n (item ∷ items) old new v are sound l =
     omega (arith, first, further)
 
 -- works and what is left are at most the budget that is always enough
-pub works-left : (s : Site) (arcs : List Arc) (n : ℕ) (items : List Item) (kept : Kept) → IsValid s → AreArcs s arcs → IsAccepted s arcs n items kept
+pub works-left : (s : Site) (arcs : List Arc) (n : ℕ) (items : List Item) (kept : ProofState) → IsValid s → AreArcs s arcs → IsAccepted s arcs n items kept
     → kept.works + works_left arcs kept.nodes ≤ enough_budget arcs
 works-left s arcs n items kept v are accepted =
-    let r = left-leads s arcs n items nothing_kept kept v are (sound-nothing s arcs) accepted in
+    let r = left-leads s arcs n items empty_state kept v are (sound-nothing s arcs) accepted in
     let one = sum_by-cons (left_at arcs (root ∷ [])) (1, root) [] in
     let free = ap (λ (k : ℕ). 2 ^ (k + 1) - 1) (free-root arcs) in
     omega (arith, r, one, free)
@@ -235,7 +235,7 @@ left-some arcs nodes (suc i) node e unworked =
     omega (arith, changed, own, double, next, some)
 
 -- so while an unworked node stands, the works are below that budget
-pub works-below : (s : Site) (arcs : List Arc) (n : ℕ) (items : List Item) (kept : Kept) → IsValid s → AreArcs s arcs → IsAccepted s arcs n items kept
+pub works-below : (s : Site) (arcs : List Arc) (n : ℕ) (items : List Item) (kept : ProofState) → IsValid s → AreArcs s arcs → IsAccepted s arcs n items kept
     → (v : ℕ) (node : Node) → node_of kept.nodes v ≡ Some node → node.status ≡ Unworked → kept.works < enough_budget arcs
 works-below s arcs n items kept valid are accepted v node e unworked =
     let all = works-left s arcs n items kept valid are accepted in

@@ -9,20 +9,20 @@ use Rattle.cable_definitions.specs.Site.{Site}
 use Rattle.cable_definitions.specs.Text.{line, cable_line}
 
 -- the ends of the cable are points of the site
-pub record IsCableOf (s : Site) (c : Cable) : Type 0 where
+pub record EndsAtPoints (s : Site) (c : Cable) : Type 0 where
   pub from : c.from < length s.points
   pub to : c.to < length s.points
 
 -- a turbine that the claim names is a point of the site
-abbrev pub IsClaimOf : Site → Claim → Type 0
-IsClaimOf s (Optimal cost) = Unit {0}
-IsClaimOf s (Gap cost bound) = Unit {0}
-IsClaimOf s (Partial bound stuck) = stuck < length s.points
-IsClaimOf s Infeasible = Unit {0}
+abbrev pub NamesPoint : Site → Claim → Type 0
+NamesPoint s (Optimal cost) = Unit {0}
+NamesPoint s (Gap cost bound) = Unit {0}
+NamesPoint s (Partial bound stuck) = stuck < length s.points
+NamesPoint s Infeasible = Unit {0}
 
 -- the line with the number of cables, and the lines of the cables
-abbrev pub layout_text : Site → List Cable → List ℕ
-layout_text s cables = line (codes "layout" ∷ decimal (length cables) ∷ []) ++ concat (map (cable_line s) cables)
+abbrev pub layout_lines : Site → List Cable → List ℕ
+layout_lines s cables = line (codes "layout" ∷ decimal (length cables) ∷ []) ++ concat (map (cable_line s) cables)
 
 -- a space and a number
 abbrev pub spaced_number : ℕ → List ℕ

@@ -5,7 +5,7 @@ ghost use Rattle.cable_definitions.specs.Text.{line, cable_line, claim_line, row
 ghost use Rattle.cable_definitions.specs.Tree.{WorkItem};
 ghost use Rattle.cable_text.specs.Stream.{Writes};
 ghost use Rattle.site_text.specs.Line.{field_text};
-ghost use Rattle.proof_lines.specs.Written.{IsCableOf, IsClaimOf, layout_text, spaced_number};
+ghost use Rattle.proof_lines.specs.Written.{EndsAtPoints, NamesPoint, layout_lines, spaced_number};
 
 use bound_value::Work;
 use cable_definitions::cable::Cable;
@@ -44,9 +44,9 @@ pub fn write_budget<O: Sink>(budget: u32, out: &mut O) -> Result<(), Failed>
 /// `Failed` only where the count of `out` rose or stands at its last value. Some first part of the
 /// lines was appended then.
 pub fn write_layout<O: Sink>(site: &Site, layout: &Layout, out: &mut O) -> Result<(), Failed>
-    requires { All (IsCableOf site.now) layout.now }
+    requires { All (EndsAtPoints site.now) layout.now }
     ensures { Writes result (O.taken out.old) (O.taken out.new) (O.faults out.old)
-        (O.faults out.new) (layout_text site.now layout.now) }
+        (O.faults out.new) (layout_lines site.now layout.now) }
 {
     push_header(layout, out)?;
     push_cables(site, layout.cables(), out)
@@ -63,7 +63,7 @@ fn push_header<O: Sink>(layout: &Layout, out: &mut O) -> Result<(), Failed>
 
 /// Appends a line for each cable.
 fn push_cables<O: Sink>(site: &Site, cables: &[Cable], out: &mut O) -> Result<(), Failed>
-    requires { All (IsCableOf site.now) cables.now }
+    requires { All (EndsAtPoints site.now) cables.now }
     ensures { Writes result (O.taken out.old) (O.taken out.new) (O.faults out.old)
         (O.faults out.new) (concat (map (cable_line site.now) cables.now)) }
 {
@@ -75,7 +75,7 @@ fn push_cables<O: Sink>(site: &Site, cables: &[Cable], out: &mut O) -> Result<()
 
 /// Appends the line of a cable.
 fn push_cable<O: Sink>(site: &Site, cable: Cable, out: &mut O) -> Result<(), Failed>
-    requires { IsCableOf site.now cable }
+    requires { EndsAtPoints site.now cable }
     ensures { Writes result (O.taken out.old) (O.taken out.new) (O.faults out.old)
         (O.faults out.new) (cable_line site.now cable) }
 {
@@ -92,7 +92,7 @@ fn push_cable<O: Sink>(site: &Site, cable: Cable, out: &mut O) -> Result<(), Fai
 /// `Failed` only where the count of `out` rose or stands at its last value. Some first part of the
 /// lines was appended then.
 pub fn write_claim<O: Sink>(site: &Site, claim: Claim, out: &mut O) -> Result<(), Failed>
-    requires { IsClaimOf site.now claim }
+    requires { NamesPoint site.now claim }
     ensures { Writes result (O.taken out.old) (O.taken out.new) (O.faults out.old)
         (O.faults out.new) (claim_line site.now claim ++ line (codes "end" ∷ codes "document" ∷ [])) }
 {
@@ -102,7 +102,7 @@ pub fn write_claim<O: Sink>(site: &Site, claim: Claim, out: &mut O) -> Result<()
 
 /// Appends the verdict line of a claim.
 fn push_claim<O: Sink>(site: &Site, claim: Claim, out: &mut O) -> Result<(), Failed>
-    requires { IsClaimOf site.now claim }
+    requires { NamesPoint site.now claim }
     ensures { Writes result (O.taken out.old) (O.taken out.new) (O.faults out.old)
         (O.faults out.new) (claim_line site.now claim) }
 {

@@ -8,7 +8,7 @@ use Rattle.cable_definitions.specs.Site.{Site}
 use Rattle.cable_definitions.specs.Refusal.{DocLine, EndLine, AtLast, Past, Reader, ReadsLines, may_end}
 use Rattle.proof_text.specs.declared.fault.ItemFault.{ItemFault}
 use Rattle.proof_text.specs.declared.fault.ItemFault.TheVariants.{Refused, Read}
-use Rattle.proof_text.specs.Reading.{counted, ReadsTo, RefusedAfter, IfRefused}
+use Rattle.proof_text.specs.Reading.{line_number_after, ReadsTo, RefusedAfter, IfRefused}
 
 -- lines and then further lines
 pub reads_append : (s : Site) (arcs : List CandidateArc) (r e f : Reader) (bytes middle rest : List ℕ) (ls ms : List DocLine) → ReadsLines s arcs r bytes ls e middle → ReadsLines s arcs e middle ms f rest → ReadsLines s arcs r bytes (ls ++ ms) f rest
@@ -27,11 +27,11 @@ reads_then s r e f (Some bytes) middle after ls ms h k =
     (d.0, d.1, λ arcs. reads_append s arcs r e f bytes h.0 d.0 ls ms (h.2 arcs) (d.2 arcs))
 
 -- so many lines and then so many
-pub counted_then : (lines a b : ℕ) → counted (counted lines a) b ≡ counted lines (a + b)
+pub counted_then : (lines a b : ℕ) → line_number_after (line_number_after lines a) b ≡ line_number_after lines (a + b)
 counted_then lines a b = omega arith
 
 -- a refusal behind lines that were read, as the next line's number tells
-pub refused_after : (s : Site) (r e : Reader) (before middle : Option (List ℕ)) (ls : List DocLine) (lines later : ℕ) (x : Refusal) → ReadsTo s r before middle ls e → counted later 1 ≡ counted lines (1 + length ls) → RefusedAfter s e middle later x → RefusedAfter s r before lines x
+pub refused_after : (s : Site) (r e : Reader) (before middle : Option (List ℕ)) (ls : List DocLine) (lines later : ℕ) (x : Refusal) → ReadsTo s r before middle ls e → line_number_after later 1 ≡ line_number_after lines (1 + length ls) → RefusedAfter s e middle later x → RefusedAfter s r before lines x
 refused_after s r e None middle ls lines later x h n k = tt
 refused_after s r e (Some bytes) middle ls lines later x h n k =
     let P : Option (List ℕ) → Type 0 = λ o. RefusedAfter s e o later x in
@@ -49,11 +49,11 @@ refused_after s r e (Some bytes) middle ls lines later x h n k =
     }
 
 -- the same where so many lines were read
-pub refused_behind : (s : Site) (r e : Reader) (before middle : Option (List ℕ)) (ls : List DocLine) (lines later : ℕ) (x : Refusal) → ReadsTo s r before middle ls e → later ≡ counted lines (length ls) → RefusedAfter s e middle later x → RefusedAfter s r before lines x
+pub refused_behind : (s : Site) (r e : Reader) (before middle : Option (List ℕ)) (ls : List DocLine) (lines later : ℕ) (x : Refusal) → ReadsTo s r before middle ls e → later ≡ line_number_after lines (length ls) → RefusedAfter s e middle later x → RefusedAfter s r before lines x
 refused_behind s r e before middle ls lines later x h n k = refused_after s r e before middle ls lines later x h (omega (arith, n)) k
 
 -- a refusal behind the last line
-pub close_refused : (result : Result (Unit {0}) ItemFault) (before middle : Option (List ℕ)) (lines later : ℕ) → ((s : Site) (r : Reader) → r.phase ≡ AtLast → ReadsTo s r before middle (EndLine ∷ []) (record r { phase = Past })) → later ≡ counted lines 1
+pub close_refused : (result : Result (Unit {0}) ItemFault) (before middle : Option (List ℕ)) (lines later : ℕ) → ((s : Site) (r : Reader) → r.phase ≡ AtLast → ReadsTo s r before middle (EndLine ∷ []) (record r { phase = Past })) → later ≡ line_number_after lines 1
     → IfRefused result (λ x. (s : Site) (r : Reader) → IsTrue (may_end r.phase) → RefusedAfter s r middle later x) → IfRefused result (λ x. (s : Site) (r : Reader) → r.phase ≡ AtLast → RefusedAfter s r before lines x)
 close_refused (Ok u) before middle lines later reads n h = tt
 close_refused (Err (Refused x)) before middle lines later reads n h = λ s r e. refused_behind s r (record r { phase = Past }) before middle (EndLine ∷ []) lines later x (reads s r e) n (h s (record r { phase = Past }) refl)

@@ -18,7 +18,7 @@ use Rattle.cable_definitions.specs.Refusal.{RawClaim, AnOptimal, AGap, AnOpen, A
 use Rattle.proof_text.specs.declared.number.Number.{Number}
 use Rattle.proof_text.specs.Numbers.{Is}
 use Rattle.proof_text.specs.Words.{IsCut}
-use Rattle.proof_text.specs.Judged.{IsStanding, IsGood, IsBad}
+use Rattle.proof_text.specs.Judged.{IsStanding, IsGoodLine, IsBad}
 use Rattle.proof_text.proofs.Standing.{bad_one, bad_second}
 use Rattle.proof_text.proofs.Causes.{line_of, first_layout}
 
@@ -52,9 +52,9 @@ allowed_claim AnInfeasible = refl
 pub claim_standing : (ws : List (List ℕ)) (raw : RawClaim) → ws ≡ claim_spelling raw → IsStanding (AtCables 0) ws (ClaimLine raw)
 claim_standing ws raw e = record { words_are = e; members = tt; allowed = allowed_claim raw }
 
-pub claim_good : (ws : List (List ℕ)) (raw other : RawClaim) → ws ≡ claim_spelling raw → raw ≡ other → All IsWithin (claim_fields raw) → IsGood (AtCables 0) ws (ClaimLine other)
+pub claim_good : (ws : List (List ℕ)) (raw other : RawClaim) → ws ≡ claim_spelling raw → raw ≡ other → All IsWithin (claim_fields raw) → IsGoodLine (AtCables 0) ws (ClaimLine other)
 claim_good ws raw other e same h =
-    let P : RawClaim → Type 0 = λ r. IsGood (AtCables 0) ws (ClaimLine r) in
+    let P : RawClaim → Type 0 = λ r. IsGoodLine (AtCables 0) ws (ClaimLine r) in
     subst P same (record { standing = claim_standing ws raw e; limits = (h, tt) })
 
 pub bad_claim_line : (ws : List (List ℕ)) (raw : RawClaim) → ws ≡ claim_spelling raw → ¬ (All IsWithin (claim_fields raw)) → IsBad (AtCables 0) ws Limit
@@ -108,7 +108,7 @@ claim_built (Partial b stuck) = refl
 claim_built Infeasible = tt
 
 -- ---- a verdict that names no turbine
-pub no_turbine : (s : Site) (r : Reader) (text : List ℕ) (ws : List (List ℕ)) (raw : RawClaim) → r.phase ≡ AtCables 0 → IsCut text ws → IsGood (AtCables 0) ws (ClaimLine raw) → ((claim : Claim) → ¬ (IsClaimOf s raw claim))
+pub no_turbine : (s : Site) (r : Reader) (text : List ℕ) (ws : List (List ℕ)) (raw : RawClaim) → r.phase ≡ AtCables 0 → IsCut text ws → IsGoodLine (AtCables 0) ws (ClaimLine raw) → ((claim : Claim) → ¬ (IsClaimOf s raw claim))
     → IsLeastCause (IsFoundByReading s r (Whole text)) Layout
 no_turbine s r text ws raw e cut good none =
     let P : Phase → Type 0 = λ p. IsLineAt p text (ClaimLine raw) in

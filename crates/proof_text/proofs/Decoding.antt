@@ -6,7 +6,7 @@ use Rattle.cable_definitions.specs.declared.row.RowKind.{RowKind}
 use Rattle.cable_definitions.specs.declared.row.RowKind.TheVariants.{Out, Flow, Inlet, Bend, Power, One, Cut}
 use Rattle.cable_definitions.specs.Numeral.{numeral, spelling as spelled}
 use Rattle.cable_definitions.specs.Text.{kind_word}
-use Rattle.cable_definitions.specs.Refusal.{RawAct, ASplit, AStop, AFull, ADeadRow, ADeadPair, ADeadLoad, ADeadLoop, ADeadPower, ADeadCeiling, act_spelling, AnOptimal, AGap, AnOpen, AnInfeasible, DocLine, BudgetLine, RowLine, WorkLine, WeightLine, ActLine, LayoutLine, CableLine, ClaimLine, EndLine, spelling}
+use Rattle.cable_definitions.specs.Refusal.{RawAct, ASplit, AStop, AFull, ADeadRow, ADeadPair, ADeadLoad, ADeadLoop, ADeadPower, ADeadCeiling, act_spelling, AnOptimal, AGap, AnOpen, AnInfeasible, DocLine, BudgetLine, RowLine, WorkLine, WeightLine, ActLine, LayoutLine, CableLine, ClaimLine, EndLine, line_spelling}
 use Rattle.cable_text.specs.Number.{IsNumeral, IsDigit, value_after}
 use Rattle.cable_text.proofs.Reading.{IsNumeral-numeral, value-numeral}
 
@@ -121,7 +121,7 @@ decode_act (ADeadLoop p) = ap (λ z. ActLine (ADeadLoop z)) (back p)
 decode_act (ADeadPower p) = ap (λ z. ActLine (ADeadPower z)) (back p)
 decode_act ADeadCeiling = refl
 
-decode_again : (l : DocLine) → decode (spelling l) ≡ l
+decode_again : (l : DocLine) → decode (line_spelling l) ≡ l
 decode_again (BudgetLine n) = ap BudgetLine (back n)
 decode_again (RowLine kind members) = ap (λ k. RowLine k (map number_back (map spelled members))) (kind_again kind) ∙ ap (RowLine kind) (backs members)
 decode_again (WorkLine v k) = ap (λ z. WorkLine z (number_back (spelled k))) (back v) ∙ ap (WorkLine v) (back k)
@@ -136,11 +136,11 @@ decode_again (ClaimLine AnInfeasible) = refl
 decode_again EndLine = refl
 
 -- two lines of one spelling are one
-pub same_line : (l m : DocLine) → spelling l ≡ spelling m → l ≡ m
+pub same_line : (l m : DocLine) → line_spelling l ≡ line_spelling m → l ≡ m
 same_line l m e = sym (decode_again l) ∙ ap decode e ∙ decode_again m
 
 -- a line has words
-pub some_words : (l : DocLine) → spelling l ≢ []
+pub some_words : (l : DocLine) → line_spelling l ≢ []
 some_words (BudgetLine n) e = cc
 some_words (RowLine kind members) e = cc
 some_words (WorkLine v k) e = cc

@@ -12,15 +12,15 @@ use Rattle.cable_definitions.specs.Text.{line, act_line, kind_word, row_line, Wh
 use Rattle.cable_definitions.specs.Items.{Field, IsWithin, within}
 use Rattle.cable_definitions.specs.Refusal.{RawAct, ASplit, AStop, AFull, ADeadRow, ADeadPair, ADeadLoad, ADeadLoop, ADeadPower, ADeadCeiling, act_spelling, act_from, act_fields, RowLine, WorkLine, ActLine, LayoutLine, member_field, AtItem, AtWeights, AtCables, after_layout}
 use Rattle.cable_text.proofs.Numerals.{numeral-decimal}
-use Rattle.cable_text.specs.Stream.{Gives}
-use Rattle.cable_text.specs.Lines.{Finds}
+use Rattle.cable_text.specs.Stream.{GivesFront}
+use Rattle.cable_text.specs.Lines.{StandsNext}
 use Rattle.proof_text.specs.declared.judging.ItemLine.{ItemLine}
 use Rattle.proof_text.specs.declared.judging.ItemLine.TheVariants.{Row, Work, Layout}
 use Rattle.proof_text.specs.declared.items.Step.{Step}
 use Rattle.proof_text.specs.declared.items.Step.TheVariants.{Row as RowStep}
 use Rattle.proof_text.specs.Words.{IsCut}
-use Rattle.proof_text.specs.Judged.{IsGood, item_line}
-use Rattle.proof_text.specs.Reading.{counted}
+use Rattle.proof_text.specs.Judged.{IsGoodLine, item_line}
+use Rattle.proof_text.specs.Reading.{line_number_after}
 use Rattle.proof_text.specs.Items.{ReadsRow, ReadsItemLine, ReadsAct, ReadsStep}
 use Rattle.proof_text.proofs.Claims.{spelled_small}
 use Rattle.proof_text.proofs.Streams.{goes_one, line_of_good, line_given}
@@ -36,8 +36,8 @@ member_small One m h = let b = h (pos m) refl in omega (arith, ints, b.1)
 member_small Cut m h = let b = h (pos m) refl in omega (arith, ints, b.1)
 
 -- the first line of an item as it was found
-module _ (before after : Option (List ℕ)) (text cut_text : List ℕ) (ws : List (List ℕ)) (found : Finds before (Whole text) after) (same : cut_text ≡ text) (cut : IsCut cut_text ws) where
-  pub item_read : (item : ItemLine) → IsGood AtItem ws (item_line item) → ReadsItemLine before after item
+module _ (before after : Option (List ℕ)) (text cut_text : List ℕ) (ws : List (List ℕ)) (found : StandsNext before (Whole text) after) (same : cut_text ≡ text) (cut : IsCut cut_text ws) where
+  pub item_read : (item : ItemLine) → IsGoodLine AtItem ws (item_line item) → ReadsItemLine before after item
   item_read (Row kind m) good =
       let small = member_small kind m (All-head IsWithin (member_field kind (pos m)) [] good.limits.0) in
       record {
@@ -88,8 +88,8 @@ act_spelled (ADeadLoop p) h = ap (λ w. line (codes "dead" ∷ codes "loop" ∷ 
 act_spelled (ADeadPower p) h = ap (λ w. line (codes "dead" ∷ codes "power" ∷ w ∷ [])) (one_number p 255 (omega arith) h)
 act_spelled ADeadCeiling h = refl
 
-pub act_read : (before after : Option (List ℕ)) (text cut_text : List ℕ) (ws : List (List ℕ)) (act : Act) → Finds before (Whole text) after → cut_text ≡ text → IsCut cut_text ws
-    → (raw : RawAct) × (act_from raw ≡ act) × ((v : ℕ) (weights : List (ℕ × ℤ)) → IsGood (AtWeights v 0 weights) ws (ActLine raw)) → ReadsAct before after act
+pub act_read : (before after : Option (List ℕ)) (text cut_text : List ℕ) (ws : List (List ℕ)) (act : Act) → StandsNext before (Whole text) after → cut_text ≡ text → IsCut cut_text ws
+    → (raw : RawAct) × (act_from raw ≡ act) × ((v : ℕ) (weights : List (ℕ × ℤ)) → IsGoodLine (AtWeights v 0 weights) ws (ActLine raw)) → ReadsAct before after act
 act_read before after text cut_text ws act found same cut h = record {
   raw = h.0;
   act_is = h.1;
@@ -98,10 +98,10 @@ act_read before after text cut_text ws act found same cut h = record {
 }
 
 -- one text and then another
-pub gives_then : (before middle after : Option (List ℕ)) (first second : List ℕ) → Gives before middle first → Gives middle after second → Gives before after (first ++ second)
-gives_then None middle after first second h k = let P : Option (List ℕ) → Type 0 = λ o. Gives o after second in subst P h k
+pub gives_then : (before middle after : Option (List ℕ)) (first second : List ℕ) → GivesFront before middle first → GivesFront middle after second → GivesFront before after (first ++ second)
+gives_then None middle after first second h k = let P : Option (List ℕ) → Type 0 = λ o. GivesFront o after second in subst P h k
 gives_then (Some bytes) middle after first second h k =
-    let P : Option (List ℕ) → Type 0 = λ o. Gives o after second in
+    let P : Option (List ℕ) → Type 0 = λ o. GivesFront o after second in
     let d = subst P h.2 k in
     (d.0, h.1 ∙ ap (λ rest. first ++ rest) d.1 ∙ sym (append_assoc first second d.0), d.2)
 
@@ -111,7 +111,7 @@ first_written [] m h = absurd (omega (arith, h))
 first_written (x ∷ xs) m h = refl
 
 -- the row of a step, once its member was written
-pub row_held : (before after : Option (List ℕ)) (old new : ℕ) (weights : List (ℕ × ℤ)) (kind : RowKind) (m : ℕ) (step : Step) (xs : List ℕ) → 1 ≤ length xs → step ≡ RowStep kind m → ReadsStep before after old new weights step → ReadsRow before after kind (take 1 (slice_set xs 0 m)) × (new ≡ counted old 1)
+pub row_held : (before after : Option (List ℕ)) (old new : ℕ) (weights : List (ℕ × ℤ)) (kind : RowKind) (m : ℕ) (step : Step) (xs : List ℕ) → 1 ≤ length xs → step ≡ RowStep kind m → ReadsStep before after old new weights step → ReadsRow before after kind (take 1 (slice_set xs 0 m)) × (new ≡ line_number_after old 1)
 row_held before after old new weights kind m step xs some e h =
     let k : ReadsStep before after old new weights (RowStep kind m) = subst (λ d. ReadsStep before after old new weights d) e h in
     let P : List ℕ → Type 0 = λ ms. ReadsRow before after kind ms in

@@ -9,11 +9,11 @@ use Rattle.cable_definitions.specs.declared.cable.Cable.{Cable}
 use Rattle.cable_definitions.specs.Site.{Site}
 use Rattle.cable_definitions.specs.Text.{cable_line}
 use Rattle.cable_definitions.specs.Refusal.{DocLine, Reader}
-use Rattle.cable_text.specs.Stream.{Gives}
+use Rattle.cable_text.specs.Stream.{GivesFront}
 use Rattle.proof_text.specs.declared.fault.ItemFault.{ItemFault}
 use Rattle.proof_text.specs.declared.fault.ItemFault.TheVariants.{Refused, Read}
-use Rattle.proof_text.specs.Reading.{counted, ReadsTo, RefusedAfter, IfRefused}
-use Rattle.proof_text.specs.Cables.{IsListed, IsAhead, ReadsCables, cables_left}
+use Rattle.proof_text.specs.Reading.{line_number_after, ReadsTo, RefusedAfter, IfRefused}
+use Rattle.proof_text.specs.Cables.{HasNumbersOf, IsAhead, ReadsCables, cables_left}
 use Rattle.proof_text.proofs.Behind.{reads_then, refused_after}
 use Rattle.proof_text.proofs.ItemLines.{gives_then}
 
@@ -21,10 +21,10 @@ use Rattle.proof_text.proofs.ItemLines.{gives_then}
 pub record AreRead (s : Site) (ordered : Bool) (count done : ℕ) (before now : Option (List ℕ)) (lines later : ℕ) (cables : List Cable) : Type 0 where
   pub size : length cables ≡ done
   pub reads : ReadsCables s ordered count (count - done) before now cables
-  pub text : Gives before now (concat (map (cable_line s) cables))
-  pub listed : All (IsListed s) cables
+  pub text : GivesFront before now (concat (map (cable_line s) cables))
+  pub listed : All (HasNumbersOf s) cables
   pub in_order : IsTrue ordered → AllPairs (λ c d. c.from < d.from) cables
-  pub lines_some : 1 ≤ done → later ≡ counted lines done
+  pub lines_some : 1 ≤ done → later ≡ line_number_after lines done
   pub lines_none : done ≡ 0 → later ≡ lines
 
 -- no line leaves the reader where it is
@@ -32,7 +32,7 @@ reads_none : (s : Site) (r e : Reader) (before : Option (List ℕ)) → e ≡ r 
 reads_none s r e None h = refl
 reads_none s r e (Some bytes) h = (bytes, refl, λ arcs. (h, refl))
 
-gives_none : (before : Option (List ℕ)) → Gives before before []
+gives_none : (before : Option (List ℕ)) → GivesFront before before []
 gives_none None = refl
 gives_none (Some bytes) = (bytes, refl, refl)
 
@@ -50,7 +50,7 @@ none_read s ordered count before lines cables empty =
             (ap (λ k. record r { phase = cables_left ordered k; cables = [] }) z ∙ ap (λ p. record r { phase = p; cables = [] }) (sym e) ∙ ap (λ cs. record r { phase = r.phase; cables = cs }) (sym f));
       };
       text = gives_none before;
-      listed = All-nil (IsListed s);
+      listed = All-nil (HasNumbersOf s);
       in_order = λ o i j d h l. absurd (omega (arith, l));
       lines_some = λ h. absurd (omega (arith, h));
       lines_none = λ h. refl;
@@ -69,7 +69,7 @@ ahead_of false cables c o h = absurd (cc)
 -- one more cable
 pub one_read : (s : Site) (ordered : Bool) (count done : ℕ) (before now after : Option (List ℕ)) (lines later last : ℕ) (cables more : List Cable) (c : Cable) → done < count → AreRead s ordered count done before now lines later cables → more ≡ cables ++ c ∷ []
     → (l : DocLine) × ((r : Reader) (k : ℕ) → r.phase ≡ cables_left ordered (suc k) → r.cables ≡ cables → ReadsTo s r now after (l ∷ []) (record r { phase = cables_left ordered k; cables = cables ++ c ∷ [] }))
-    → Gives now after (cable_line s c) → IsListed s c → IsAhead ordered cables c → last ≡ counted later 1 → AreRead s ordered count (done + 1) before after lines last more
+    → GivesFront now after (cable_line s c) → HasNumbersOf s c → IsAhead ordered cables c → last ≡ line_number_after later 1 → AreRead s ordered count (done + 1) before after lines last more
 one_read s ordered count done before now after lines later last cables more c below h e line text listed ahead n =
     let P : List Cable → Type 0 = λ cs. AreRead s ordered count (done + 1) before after lines last cs in
     subst P (sym e) (record {
@@ -82,14 +82,14 @@ one_read s ordered count done before now after lines later last cables more c be
             reads_then s r (record r { phase = cables_left ordered (count - done); cables = cables }) (record r { phase = cables_left ordered (count - (done + 1)); cables = cables ++ c ∷ [] }) before now after h.reads.read_lines (line.0 ∷ [])
             (h.reads.reads r d f) (line.1 (record r { phase = cables_left ordered (count - done); cables = cables }) (count - (done + 1)) (ap (cables_left ordered) left) refl);
       };
-      text = let Q : List ℕ → Type 0 = λ t. Gives before after t in subst Q (sym (concat_push (cable_line s) cables c)) (gives_then before now after (concat (map (cable_line s) cables)) (cable_line s c) h.text text);
-      listed = All-push (IsListed s) cables c h.listed listed;
+      text = let Q : List ℕ → Type 0 = λ t. GivesFront before after t in subst Q (sym (concat_push (cable_line s) cables c)) (gives_then before now after (concat (map (cable_line s) cables)) (cable_line s c) h.text text);
+      listed = All-push (HasNumbersOf s) cables c h.listed listed;
       in_order = λ o. all_pairs_push (λ a b. a.from < b.from) cables c (h.in_order o) (ahead_of ordered cables c o ahead);
       lines_some = λ some. one_later done lines later last h.lines_some h.lines_none n;
       lines_none = λ z. absurd (omega (arith, z));
     })
   where
-    one_later : (d i j k : ℕ) → (1 ≤ d → j ≡ counted i d) → (d ≡ 0 → j ≡ i) → k ≡ counted j 1 → k ≡ counted i (d + 1)
+    one_later : (d i j k : ℕ) → (1 ≤ d → j ≡ line_number_after i d) → (d ≡ 0 → j ≡ i) → k ≡ line_number_after j 1 → k ≡ line_number_after i (d + 1)
     one_later zero i j k some none e = let f = none refl in omega (arith, e, f)
     one_later (suc d) i j k some none e = let f = some (omega arith) in omega (arith, e, f)
 
@@ -104,7 +104,7 @@ cable_refused A B (Refused x) s ordered count done before now lines later cables
     (next_is done lines later (length h.reads.read_lines) (h.reads.lines_count ∙ h.size) h.lines_some h.lines_none)
     (k (record r { phase = cables_left ordered (count - done); cables = cables }) (count - (done + 1)) (ap (cables_left ordered) left) refl)
   where
-    next_is : (d i j n : ℕ) → n ≡ d → (1 ≤ d → j ≡ counted i d) → (d ≡ 0 → j ≡ i) → counted j 1 ≡ counted i (1 + n)
+    next_is : (d i j n : ℕ) → n ≡ d → (1 ≤ d → j ≡ line_number_after i d) → (d ≡ 0 → j ≡ i) → line_number_after j 1 ≡ line_number_after i (1 + n)
     next_is zero i j n e some none = let f = none refl in omega (arith, e, f)
     next_is (suc d) i j n e some none = let f = some (omega arith) in omega (arith, e, f)
 cable_refused A B Read s ordered count done before now lines later cables below h k = tt

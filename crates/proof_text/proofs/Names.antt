@@ -17,12 +17,12 @@ use Rattle.cable_definitions.specs.Arcs.{kind_of, is_turbine}
 use Rattle.cable_definitions.specs.Items.{IsWithin}
 use Rattle.cable_definitions.specs.Numeral.{spelling as spelled}
 use Rattle.cable_definitions.specs.Text.{name_from, name_of, line, cable_line, Whole}
-use Rattle.cable_definitions.specs.Refusal.{BudgetLine, RowLine, WorkLine, WeightLine, ActLine, LayoutLine, CableLine, ClaimLine, EndLine, spelling, Phase, AtCables, AtAnyCables, Reader, IsLineAt, IsWithinLimits, IsInOrder, IsCableOf, after_cable, GoesOn, IsFoundByReading, IsLeastCause}
+use Rattle.cable_definitions.specs.Refusal.{BudgetLine, RowLine, WorkLine, WeightLine, ActLine, LayoutLine, CableLine, ClaimLine, EndLine, line_spelling, Phase, AtCables, AtAnyCables, Reader, IsLineAt, IsWithinLimits, IsInOrder, IsCableOf, after_cable, GoesOn, IsFoundByReading, IsLeastCause}
 use Rattle.cable_text.proofs.Numerals.{numeral-decimal}
 use Rattle.proof_laws.proofs.FullLemma.{within-turbine}
 use Rattle.proof_text.specs.Words.{IsCut}
-use Rattle.proof_text.specs.Judged.{IsStanding, IsGood, IsBad}
-use Rattle.proof_text.specs.Cables.{IsNamed, IsAhead, IsNoCable, cables_left, cable_line_words}
+use Rattle.proof_text.specs.Judged.{IsStanding, IsGoodLine, IsBad}
+use Rattle.proof_text.specs.Cables.{IsCableNamed, IsAhead, IsNoCable, cables_left, cable_line_words}
 use Rattle.proof_text.proofs.Causes.{line_of, first_layout, bad_refused}
 
 -- ---- names
@@ -46,10 +46,10 @@ one_name (x ∷ xs) p q n differ l m e f =
     elim (cases_order p q) [ inl same ↦ same | inr o ↦ elim o [ inl lt ↦ absurd (differ p q x lt m (at_p ∙ sym at_q)) | inr gt ↦ absurd (differ q p x gt l (at_q ∙ sym at_p)) ] ]
 
 -- where no point has a name, no cable has it
-pub no_start : (s : Site) (a b : List ℕ) (z : ℤ) (c : Cable) → ¬ (Any (λ p. p.name ≡ a) s.points) → ¬ (IsNamed s a b z c)
+pub no_start : (s : Site) (a b : List ℕ) (z : ℤ) (c : Cable) → ¬ (Any (λ p. p.name ≡ a) s.points) → ¬ (IsCableNamed s a b z c)
 no_start s a b z c none h = none (there s.points c.from a h.listed.from h.from)
 
-pub no_finish : (s : Site) (a b : List ℕ) (z : ℤ) (c : Cable) → ¬ (Any (λ p. p.name ≡ b) s.points) → ¬ (IsNamed s a b z c)
+pub no_finish : (s : Site) (a b : List ℕ) (z : ℤ) (c : Cable) → ¬ (Any (λ p. p.name ≡ b) s.points) → ¬ (IsCableNamed s a b z c)
 no_finish s a b z c none h = none (there s.points c.to b h.listed.to h.to)
 
 -- nor has a turbine it
@@ -63,7 +63,7 @@ no_turbine_named s n p q differ l e none turbine f =
     none (subst P (one_name s.points q p n differ (within-turbine s q turbine) l f e) turbine)
 
 -- cables of the same start stand behind the same cables
-pub ahead_too : (s : Site) (a b : List ℕ) (z : ℤ) (c d : Cable) (ordered : Bool) (cables : List Cable) → AllPairs (λ p q. p.name ≢ q.name) s.points → IsNamed s a b z c → IsNamed s a b z d → IsAhead ordered cables c → IsAhead ordered cables d
+pub ahead_too : (s : Site) (a b : List ℕ) (z : ℤ) (c d : Cable) (ordered : Bool) (cables : List Cable) → AllPairs (λ p q. p.name ≢ q.name) s.points → IsCableNamed s a b z c → IsCableNamed s a b z d → IsAhead ordered cables c → IsAhead ordered cables d
 ahead_too s a b z c d true cables differ h k ahead =
     let P : ℕ → Type 0 = λ n. All (λ e. e.from < n) cables in
     subst P (one_name s.points c.from d.from a differ h.listed.from k.listed.from h.from k.from) ahead
@@ -97,7 +97,7 @@ cable_standing false k ws a b t e = record { words_are = e; members = tt; allowe
 cable_limits : (a b : List ℕ) (t : ℤ) → IsWithinLimits (CableLine a b t)
 cable_limits a b t = (All-nil IsWithin, tt)
 
-pub cable_good : (ordered : Bool) (k : ℕ) (ws : List (List ℕ)) (a b : List ℕ) (t : ℤ) → ws ≡ cable_line_words a b t → IsGood (cables_left ordered (suc k)) ws (CableLine a b t)
+pub cable_good : (ordered : Bool) (k : ℕ) (ws : List (List ℕ)) (a b : List ℕ) (t : ℤ) → ws ≡ cable_line_words a b t → IsGoodLine (cables_left ordered (suc k)) ws (CableLine a b t)
 cable_good ordered k ws a b t e = record { standing = cable_standing ordered k ws a b t e; limits = cable_limits a b t }
 
 -- a cable that may stand there, and back
@@ -109,7 +109,7 @@ order_back : (ordered : Bool) (k : ℕ) (cables : List Cable) (c : Cable) → Is
 order_back true k cables c h = h
 order_back false k cables c h = tt
 
-pub cable_of : (s : Site) (r : Reader) (ordered : Bool) (k : ℕ) (cables : List Cable) (a b : List ℕ) (t : ℤ) (c : Cable) → r.phase ≡ cables_left ordered (suc k) → r.cables ≡ cables → IsNamed s a b t c → IsAhead ordered cables c → IsCableOf s r a b t c
+pub cable_of : (s : Site) (r : Reader) (ordered : Bool) (k : ℕ) (cables : List Cable) (a b : List ℕ) (t : ℤ) (c : Cable) → r.phase ≡ cables_left ordered (suc k) → r.cables ≡ cables → IsCableNamed s a b t c → IsAhead ordered cables c → IsCableOf s r a b t c
 cable_of s r ordered k cables a b t c e f h ahead =
     let P : Phase → Type 0 = λ p. IsInOrder p r.cables c in
     let Q : List Cable → Type 0 = λ cs. IsInOrder (cables_left ordered (suc k)) cs c in
@@ -127,7 +127,7 @@ cable_goes s arcs r ordered k cables a b t c e f h =
     (c, h, ap (λ q. record r { phase = q; cables = cables ++ c ∷ [] }) p ∙ ap (λ cs. record r { phase = after_cable r.phase; cables = cs ++ c ∷ [] }) (sym f))
 
 -- its text
-pub cable_spelled : (s : Site) (a b : List ℕ) (t : ℤ) (c : Cable) → IsNamed s a b t c → length s.types ≤ 8 → cable_line s c ≡ line (spelling (CableLine a b t))
+pub cable_spelled : (s : Site) (a b : List ℕ) (t : ℤ) (c : Cable) → IsCableNamed s a b t c → length s.types ≤ 8 → cable_line s c ≡ line (line_spelling (CableLine a b t))
 cable_spelled s a b t c h few =
     ap (λ w. line (codes "cable" ∷ w ∷ name_of s c.to ∷ decimal c.grade ∷ [])) h.from ∙ ap (λ w. line (codes "cable" ∷ a ∷ w ∷ decimal c.grade ∷ [])) h.to
     ∙ ap (λ w. line (codes "cable" ∷ a ∷ b ∷ w ∷ [])) (sym (numeral-decimal c.grade (omega (arith, h.listed.grade, few)))) ∙ ap (λ z. line (codes "cable" ∷ a ∷ b ∷ spelled z ∷ [])) (sym h.grade)

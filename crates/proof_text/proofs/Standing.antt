@@ -8,7 +8,7 @@ use Rattle.cable_definitions.specs.declared.claim.Cause.TheVariants.{Form}
 use Rattle.cable_definitions.specs.Numeral.{spelling as spelled}
 use Rattle.cable_definitions.specs.Items.{Field, IsWithin, within}
 use Rattle.cable_definitions.specs.Built.{is_built_kind}
-use Rattle.cable_definitions.specs.Refusal.{RawAct, ADeadPair, act_spelling, act_fields, RawClaim, claim_spelling, BudgetLine, RowLine, WorkLine, WeightLine, ActLine, LayoutLine, CableLine, ClaimLine, EndLine, spelling, HasMembers, IsWithinLimits, member_field, AtBudget, AtItem, AtWeights, AtCables, AtLast, AtJudged}
+use Rattle.cable_definitions.specs.Refusal.{RawAct, ADeadPair, act_spelling, act_fields, RawClaim, claim_spelling, BudgetLine, RowLine, WorkLine, WeightLine, ActLine, LayoutLine, CableLine, ClaimLine, EndLine, line_spelling, HasMembers, IsWithinLimits, member_field, AtBudget, AtItem, AtWeights, AtCables, AtLast, AtJudged}
 use Rattle.proof_text.specs.declared.number.Number.{Number}
 use Rattle.proof_text.specs.Numbers.{Is}
 use Rattle.proof_text.specs.Said.{IsRow}
@@ -91,7 +91,7 @@ one_member Power members built h = h.1 refl
 one_member One members built h = cc
 one_member Cut members built h = cc
 
-no_row : (ws : List (List ℕ)) (kind : RowKind) (members : List ℤ) → ((z : ℤ) → ¬ (IsRow ws kind z)) → IsTrue (is_built_kind kind) → length members ≡ 1 → ws ≡ spelling (RowLine kind members) → ⊥
+no_row : (ws : List (List ℕ)) (kind : RowKind) (members : List ℤ) → ((z : ℤ) → ¬ (IsRow ws kind z)) → IsTrue (is_built_kind kind) → length members ≡ 1 → ws ≡ line_spelling (RowLine kind members) → ⊥
 no_row ws kind [] none built one e = absurd (omega arith)
 no_row ws kind (z ∷ []) none built one e = none z (record { words_are = e; built = built })
 no_row ws kind (z ∷ y ∷ zs) none built one e = absurd (omega arith)

@@ -6,38 +6,38 @@ use Rattle.cable_definitions.specs.declared.claim.Cause.{Cause}
 use Rattle.cable_definitions.specs.declared.claim.Cause.TheVariants.{Line as LineCause, Form}
 use Rattle.cable_definitions.specs.Site.{Site}
 use Rattle.cable_definitions.specs.Text.{words, line, Piece, Whole, LongLine, CutLine, NoLine}
-use Rattle.cable_definitions.specs.Refusal.{DocLine, spelling, Phase, Reader, IsReadable, IsFoundByReading, IsFoundByFeeding, IsLeastCause, GoesOn, NamesHold, may_end}
-use Rattle.cable_text.specs.Stream.{Gives, IsAtEnd}
+use Rattle.cable_definitions.specs.Refusal.{DocLine, line_spelling, Phase, Reader, IsReadable, IsFoundByReading, IsFoundByFeeding, IsLeastCause, GoesOn, NamesHold, may_end}
+use Rattle.cable_text.specs.Stream.{GivesFront, IsAtEnd}
 use Rattle.cable_text.specs.declared.fault.Line.{Line}
 use Rattle.cable_text.specs.declared.fault.Line.TheVariants.{Text, End}
 use Rattle.cable_text.specs.declared.fault.LineFault.{LineFault}
 use Rattle.cable_text.specs.declared.fault.LineFault.TheVariants.{TooLong, NoNewline}
-use Rattle.cable_text.specs.Lines.{ahead, Finds, LinesState, ReadsLine, ReadsPiece}
+use Rattle.cable_text.specs.Lines.{ahead, StandsNext, LinesState, ReadsLine, ReadsPiece}
 use Rattle.proof_text.specs.Words.{IsCut}
-use Rattle.proof_text.specs.Judged.{IsStanding, IsGood, IsBad}
-use Rattle.proof_text.specs.Reading.{counted, ReadsTo, ReadsLineOf, RefusedAfter}
+use Rattle.proof_text.specs.Judged.{IsStanding, IsGoodLine, IsBad}
+use Rattle.proof_text.specs.Reading.{line_number_after, ReadsTo, ReadsLine, RefusedAfter}
 use Rattle.proof_text.proofs.Decoding.{some_words}
 use Rattle.proof_text.proofs.Causes.{first_line, first_missing, first_form, no_line_past, good_readable, bad_refused}
 
 -- a refusal at the next line
-pub refused_next : (s : Site) (r : Reader) (before after : Option (List ℕ)) (piece : Piece) (lines number : ℕ) (cause : Cause) → number ≡ counted lines 1 → Finds before piece after → IsLeastCause (IsFoundByReading s r piece) cause → RefusedAfter s r before lines (record { line = number; cause = cause })
+pub refused_next : (s : Site) (r : Reader) (before after : Option (List ℕ)) (piece : Piece) (lines number : ℕ) (cause : Cause) → number ≡ line_number_after lines 1 → StandsNext before piece after → IsLeastCause (IsFoundByReading s r piece) cause → RefusedAfter s r before lines (record { line = number; cause = cause })
 refused_next s r None after piece lines number cause e found first = tt
 refused_next s r (Some bytes) after piece lines number cause e found first = record { read_lines = []; reader = r; left = bytes; reads = λ arcs. (refl, refl); piece = piece; rest = found.0; next = found.1; first = first; line_is = e }
 
 -- one line that isn't fed
-pub reads_one : (s : Site) (r : Reader) (before after : Option (List ℕ)) (text : List ℕ) (l : DocLine) (next : Reader) → Finds before (Whole text) after → IsReadable s r (Whole text) l
+pub reads_one : (s : Site) (r : Reader) (before after : Option (List ℕ)) (text : List ℕ) (l : DocLine) (next : Reader) → StandsNext before (Whole text) after → IsReadable s r (Whole text) l
     → ((arcs : List CandidateArc) (cause : Cause) → ¬ (IsFoundByFeeding s arcs r l cause)) → ((arcs : List CandidateArc) → GoesOn s arcs r l next) → ReadsTo s r before after (l ∷ []) next
 reads_one s r None after text l next found good unfed goes = found
 reads_one s r (Some bytes) after text l next found good unfed goes = (found.0, found.2, λ arcs. (text, found.0, next, found.1, good, unfed arcs, goes arcs, (refl, refl)))
 
 -- the text of a line in front
-pub gives_line : (before after : Option (List ℕ)) (text whole : List ℕ) → Finds before (Whole text) after → whole ≡ text ++ 10 ∷ [] → Gives before after whole
+pub gives_line : (before after : Option (List ℕ)) (text whole : List ℕ) → StandsNext before (Whole text) after → whole ≡ text ++ 10 ∷ [] → GivesFront before after whole
 gives_line None after text whole found e = found
 gives_line (Some bytes) after text whole found e =
     (found.0, found.1.0 ∙ sym (append_assoc text (10 ∷ []) found.0) ∙ ap (λ front. front ++ found.0) (sym e), found.2)
 
 -- the line of words as which a text stands
-pub line_text : (phase : Phase) (text : List ℕ) (ws : List (List ℕ)) (l : DocLine) → IsCut text ws → IsStanding phase ws l → line (spelling l) ≡ text ++ 10 ∷ []
+pub line_text : (phase : Phase) (text : List ℕ) (ws : List (List ℕ)) (l : DocLine) → IsCut text ws → IsStanding phase ws l → line (line_spelling l) ≡ text ++ 10 ∷ []
 line_text phase text ws l cut h =
     let of = cut.of_words (λ e. some_words l (sym h.words_are ∙ e)) in
     ap (λ t. t ++ 10 ∷ []) (sym (of.text_is ∙ ap words h.words_are))
@@ -69,30 +69,30 @@ module _ {old new : LinesState} {a b : Option (List ℕ)} {i j : ℕ} {result : 
 
 -- ---- a line that was found, and whose words were cut
 -- it is read
-pub goes_one : (s : Site) (r : Reader) (phase : Phase) (before after : Option (List ℕ)) (text cut_text : List ℕ) (ws : List (List ℕ)) (l : DocLine) (next : Reader) → Finds before (Whole text) after → cut_text ≡ text → IsCut cut_text ws → IsGood phase ws l
+pub goes_one : (s : Site) (r : Reader) (phase : Phase) (before after : Option (List ℕ)) (text cut_text : List ℕ) (ws : List (List ℕ)) (l : DocLine) (next : Reader) → StandsNext before (Whole text) after → cut_text ≡ text → IsCut cut_text ws → IsGoodLine phase ws l
     → r.phase ≡ phase → NamesHold s r l → ((arcs : List CandidateArc) (cause : Cause) → ¬ (IsFoundByFeeding s arcs r l cause)) → ((arcs : List CandidateArc) → GoesOn s arcs r l next) → ReadsTo s r before after (l ∷ []) next
 goes_one s r phase before after text cut_text ws l next found same cut good e names unfed goes =
     reads_one s r before after text l next found (good_readable s r phase text ws l e (subst (λ t. IsCut t ws) same cut) good names) unfed goes
 
 -- it is refused
-pub refused_here : (s : Site) (r : Reader) (phase : Phase) (before after : Option (List ℕ)) (text cut_text : List ℕ) (ws : List (List ℕ)) (lines number : ℕ) (cause : Cause) → Finds before (Whole text) after → cut_text ≡ text → IsCut cut_text ws → IsBad phase ws cause
-    → r.phase ≡ phase → number ≡ counted lines 1 → RefusedAfter s r before lines (record { line = number; cause = cause })
+pub refused_here : (s : Site) (r : Reader) (phase : Phase) (before after : Option (List ℕ)) (text cut_text : List ℕ) (ws : List (List ℕ)) (lines number : ℕ) (cause : Cause) → StandsNext before (Whole text) after → cut_text ≡ text → IsCut cut_text ws → IsBad phase ws cause
+    → r.phase ≡ phase → number ≡ line_number_after lines 1 → RefusedAfter s r before lines (record { line = number; cause = cause })
 refused_here s r phase before after text cut_text ws lines number cause found same cut bad e n =
     refused_next s r before after (Whole text) lines number cause n found (bad_refused s r phase text ws cause e (subst (λ t. IsCut t ws) same cut) bad)
 
 -- its text
-pub line_given : (phase : Phase) (before after : Option (List ℕ)) (text cut_text : List ℕ) (ws : List (List ℕ)) (l : DocLine) (whole : List ℕ) → Finds before (Whole text) after → cut_text ≡ text → IsCut cut_text ws → IsStanding phase ws l → whole ≡ line (spelling l) → Gives before after whole
+pub line_given : (phase : Phase) (before after : Option (List ℕ)) (text cut_text : List ℕ) (ws : List (List ℕ)) (l : DocLine) (whole : List ℕ) → StandsNext before (Whole text) after → cut_text ≡ text → IsCut cut_text ws → IsStanding phase ws l → whole ≡ line (line_spelling l) → GivesFront before after whole
 line_given phase before after text cut_text ws l whole found same cut standing e =
     gives_line before after text whole found (e ∙ line_text phase text ws l (subst (λ t. IsCut t ws) same cut) standing)
 
 -- a line that is fed
-pub line_of_good : (s : Site) (r : Reader) (phase : Phase) (before after : Option (List ℕ)) (text cut_text : List ℕ) (ws : List (List ℕ)) (l : DocLine) → Finds before (Whole text) after → cut_text ≡ text → IsCut cut_text ws → IsGood phase ws l
-    → r.phase ≡ phase → NamesHold s r l → ReadsLineOf s r before after l
+pub line_of_good : (s : Site) (r : Reader) (phase : Phase) (before after : Option (List ℕ)) (text cut_text : List ℕ) (ws : List (List ℕ)) (l : DocLine) → StandsNext before (Whole text) after → cut_text ≡ text → IsCut cut_text ws → IsGoodLine phase ws l
+    → r.phase ≡ phase → NamesHold s r l → ReadsLine s r before after l
 line_of_good s r phase before after text cut_text ws l found same cut good e names =
     (text, good_readable s r phase text ws l e (subst (λ t. IsCut t ws) same cut) good names, found)
 
 -- the end of the input stays the end
-pub end_same : (before after : Option (List ℕ)) → Finds before NoLine after → after ≡ before
+pub end_same : (before after : Option (List ℕ)) → StandsNext before NoLine after → after ≡ before
 end_same None after found = found
 end_same (Some bytes) after found = found.2 ∙ ap Some (found.1.1 ∙ sym found.1.0)
 

@@ -15,14 +15,14 @@ use Rattle.cable_definitions.specs.Items.{Field, IsWithin, within}
 use Rattle.cable_definitions.specs.Refusal.{DocLine, WorkLine, WeightLine, row_field, Phase, Reader, AtItem, AtWeights, after_weight}
 use Rattle.cable_text.proofs.Numerals.{numeral-decimal}
 use Rattle.cable_text.proofs.Reading.{spelling-number}
-use Rattle.cable_text.specs.Stream.{Gives}
-use Rattle.cable_text.specs.Lines.{Finds}
+use Rattle.cable_text.specs.Stream.{GivesFront}
+use Rattle.cable_text.specs.Lines.{StandsNext}
 use Rattle.proof_text.specs.declared.fault.ItemFault.{ItemFault}
 use Rattle.proof_text.specs.declared.fault.ItemFault.TheVariants.{Refused, Read}
 use Rattle.proof_text.specs.declared.judging.ItemLine.TheVariants.{Work}
 use Rattle.proof_text.specs.Words.{IsCut}
-use Rattle.proof_text.specs.Judged.{IsGood}
-use Rattle.proof_text.specs.Reading.{counted, ReadsTo, RefusedAfter, IfRefused}
+use Rattle.proof_text.specs.Judged.{IsGoodLine}
+use Rattle.proof_text.specs.Reading.{line_number_after, ReadsTo, RefusedAfter, IfRefused}
 use Rattle.proof_text.specs.Items.{weight_lines, ReadsWork, ReadsItemLine, ReadsWeight, ReadsWeights, ReadsRest}
 use Rattle.proof_text.proofs.Streams.{goes_one, line_given}
 use Rattle.proof_text.proofs.Behind.{reads_then, refused_after, refused_behind}
@@ -44,8 +44,8 @@ weight_spelled row weight h k =
     ∙ ap (λ w. line (codes "by" ∷ spelled (pos row) ∷ w ∷ [])) (sym (spelling-number weight (omega (arith, ints, d.0)) (omega (arith, ints, d.1))))
 
 -- the line as it was found
-pub weight_read : (before after : Option (List ℕ)) (text cut_text : List ℕ) (ws : List (List ℕ)) (weight : ℕ × ℤ) → Finds before (Whole text) after → cut_text ≡ text → IsCut cut_text ws
-    → ((v k : ℕ) (weights : List (ℕ × ℤ)) → IsGood (AtWeights v (suc k) weights) ws (WeightLine (pos weight.0) weight.1)) → ReadsWeight before after weight
+pub weight_read : (before after : Option (List ℕ)) (text cut_text : List ℕ) (ws : List (List ℕ)) (weight : ℕ × ℤ) → StandsNext before (Whole text) after → cut_text ≡ text → IsCut cut_text ws
+    → ((v k : ℕ) (weights : List (ℕ × ℤ)) → IsGoodLine (AtWeights v (suc k) weights) ws (WeightLine (pos weight.0) weight.1)) → ReadsWeight before after weight
 weight_read before after text cut_text ws weight found same cut good = record {
   reads = λ s r v k weights e. goes_one s r (AtWeights v (suc k) weights) before after text cut_text ws (WeightLine (pos weight.0) weight.1) (record r { phase = AtWeights v k (weights ++ weight ∷ []) }) found same cut (good v k weights) e tt
       (λ arcs cause f. f) (λ arcs. ap (λ p. record r { phase = p }) (one_fewer v k weights weight r.phase e));
@@ -83,11 +83,11 @@ one_weight_more before middle after weights weight h k =
       text =
           let lines_are : concat (map weight_line (weights ++ weight ∷ [])) ≡ concat (map weight_line weights) ++ weight_line weight =
           ap concat (map-append weight_line weights (weight ∷ [])) ∙ concat-append (map weight_line weights) (weight_line weight ∷ []) ∙ ap (λ t. concat (map weight_line weights) ++ t) (append-nil (weight_line weight)) in
-          subst (Gives before after) (sym lines_are) (gives_then before middle after (concat (map weight_line weights)) (weight_line weight) h.text k.text);
+          subst (GivesFront before after) (sym lines_are) (gives_then before middle after (concat (map weight_line weights)) (weight_line weight) h.text k.text);
     }
 
 -- a refusal behind some of so many weights
-pub weight_refused : (before middle : Option (List ℕ)) (weights : List (ℕ × ℤ)) (total lines later : ℕ) (fault : ItemFault) → ReadsWeights before middle weights → length weights < total → counted later 1 ≡ counted lines (length weights + 1)
+pub weight_refused : (before middle : Option (List ℕ)) (weights : List (ℕ × ℤ)) (total lines later : ℕ) (fault : ItemFault) → ReadsWeights before middle weights → length weights < total → line_number_after later 1 ≡ line_number_after lines (length weights + 1)
     → IfRefused {A = ℕ × ℤ} (Err fault) (λ x. (s : Site) (r : Reader) (v k : ℕ) (ws : List (ℕ × ℤ)) → r.phase ≡ AtWeights v (suc k) ws → RefusedAfter s r middle later x)
     → IfRefused {A = Unit {0}} (Err fault) (λ x. (s : Site) (r : Reader) (v : ℕ) → r.phase ≡ AtWeights v total [] → RefusedAfter s r before lines x)
 weight_refused before middle weights total lines later (Refused x) h few n k = λ s r v e.
@@ -99,7 +99,7 @@ weight_refused before middle weights total lines later Read h few n k = tt
 
 -- ---- the lines of a work behind its first
 -- a refusal of the line of the act
-pub act_refused : (before middle : Option (List ℕ)) (weights : List (ℕ × ℤ)) (count lines later : ℕ) (result : Result Act ItemFault) → ReadsWeights before middle weights → length weights ≡ count → counted later 1 ≡ counted lines (count + 1)
+pub act_refused : (before middle : Option (List ℕ)) (weights : List (ℕ × ℤ)) (count lines later : ℕ) (result : Result Act ItemFault) → ReadsWeights before middle weights → length weights ≡ count → line_number_after later 1 ≡ line_number_after lines (count + 1)
     → IfRefused result (λ x. (s : Site) (r : Reader) (v : ℕ) (ws : List (ℕ × ℤ)) → r.phase ≡ AtWeights v 0 ws → RefusedAfter s r middle later x)
     → IfRefused result (λ x. (s : Site) (r : Reader) (v : ℕ) → r.phase ≡ AtWeights v count [] → RefusedAfter s r before lines x)
 act_refused before middle weights count lines later (Ok act) h size n k = tt
@@ -130,7 +130,7 @@ work_read before middle after node count weights act first size rest =
     }
 
 -- a refusal behind the first line
-pub rest_refused : (B : Type 0) (fault : ItemFault) (before middle : Option (List ℕ)) (lines later node count : ℕ) → ReadsItemLine before middle (Work node count) → later ≡ counted lines 1
+pub rest_refused : (B : Type 0) (fault : ItemFault) (before middle : Option (List ℕ)) (lines later node count : ℕ) → ReadsItemLine before middle (Work node count) → later ≡ line_number_after lines 1
     → IfRefused {A = Act} (Err fault) (λ x. (s : Site) (r : Reader) (v : ℕ) → r.phase ≡ AtWeights v count [] → RefusedAfter s r middle later x)
     → IfRefused {A = B} (Err fault) (λ x. (s : Site) (r : Reader) → r.phase ≡ AtItem → RefusedAfter s r before lines x)
 rest_refused B (Refused x) before middle lines later node count h n k = λ s r e.

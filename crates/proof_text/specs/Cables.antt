@@ -10,14 +10,14 @@ use Rattle.cable_definitions.specs.Refusal.{Phase, AtCables, AtAnyCables, Reader
 use Rattle.proof_text.specs.Reading.{ReadsTo}
 
 -- the numbers of the cable are of the site
-pub record IsListed (s : Site) (c : Cable) : Type 0 where
+pub record HasNumbersOf (s : Site) (c : Cable) : Type 0 where
   pub from : c.from < length s.points
   pub to : c.to < length s.points
   pub grade : c.grade < length s.types
 
 -- the cable between the points of these names, with this type
-pub record IsNamed (s : Site) (a b : List ℕ) (t : ℤ) (c : Cable) : Type 0 where
-  pub listed : IsListed s c
+pub record IsCableNamed (s : Site) (a b : List ℕ) (t : ℤ) (c : Cable) : Type 0 where
+  pub listed : HasNumbersOf s c
   pub from : name_of s c.from ≡ a
   pub to : name_of s c.to ≡ b
   pub grade : t ≡ pos c.grade
@@ -42,13 +42,13 @@ pub record IsCableLine (s : Site) (ordered : Bool) (cables : List Cable) (ws : L
   pub b : List ℕ
   pub t : ℤ
   pub words_are : ws ≡ cable_line_words a b t
-  pub named : IsNamed s a b t c
+  pub named : IsCableNamed s a b t c
   pub ahead : IsAhead ordered cables c
 
 -- the words are no cable line, or one that names no cable that may stand there
 abbrev pub IsNoCable : Site → Bool → List Cable → List (List ℕ) → Cause → Type 0
 IsNoCable s ordered cables ws Form = (a b : List ℕ) (t : ℤ) → ws ≢ cable_line_words a b t
-IsNoCable s ordered cables ws Layout = (a b : List ℕ) × (t : ℤ) × (ws ≡ cable_line_words a b t) × ((c : Cable) → IsNamed s a b t c → ¬ (IsAhead ordered cables c))
+IsNoCable s ordered cables ws Layout = (a b : List ℕ) × (t : ℤ) × (ws ≡ cable_line_words a b t) × ((c : Cable) → IsCableNamed s a b t c → ¬ (IsAhead ordered cables c))
 IsNoCable s ordered cables ws cause = ⊥
 
 -- so many cable lines lead a reader that has no cable from `before` to these cables

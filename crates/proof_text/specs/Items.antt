@@ -10,7 +10,7 @@ use Rattle.cable_definitions.specs.Text.{line, item_lines, weight_line, act_line
 use Rattle.cable_definitions.specs.Built.{is_built_kind, most_weights}
 use Rattle.cable_definitions.specs.Refusal.{DocLine, RowLine, WorkLine, WeightLine, ActLine, LayoutLine, RawAct, act_from, Reader, AtItem, AtWeights, AtCables}
 use Rattle.bound_value.specs.declared.work.Work.{Work}
-use Rattle.cable_text.specs.Stream.{Gives}
+use Rattle.cable_text.specs.Stream.{GivesFront}
 use Rattle.proof_text.specs.declared.fault.ItemFault.{ItemFault}
 use Rattle.proof_text.specs.declared.items.Next.{Next}
 use Rattle.proof_text.specs.declared.items.Next.TheVariants.{Row, Work as WorkNext, Layout}
@@ -18,7 +18,7 @@ use Rattle.proof_text.specs.declared.items.Step.{Step}
 use Rattle.proof_text.specs.declared.items.Step.TheVariants.{Row as RowStep, Work as WorkStep, Layout as LayoutStep}
 use Rattle.proof_text.specs.declared.judging.ItemLine.{ItemLine}
 use Rattle.proof_text.specs.declared.judging.ItemLine.TheVariants.{Row as RowItemLine, Work as WorkItemLine, Layout as LayoutItemLine}
-use Rattle.proof_text.specs.Reading.{counted, ReadsTo, ReadsLineOf}
+use Rattle.proof_text.specs.Reading.{line_number_after, ReadsTo, ReadsLine}
 
 -- the last row, the last work, and the fault that is kept
 pub record ItemsState : Type 0 where
@@ -33,8 +33,8 @@ weight_lines weights = map (λ (r, w). WeightLine (pos r) w) weights
 
 -- the line of a row is read, of a kind that is read so far and with 1 to 256 members
 pub record ReadsRow (before after : Option (List ℕ)) (kind : RowKind) (members : List ℕ) : Type 0 where
-  pub reads : (s : Site) (r : Reader) → r.phase ≡ AtItem → ReadsLineOf s r before after (RowLine kind (map pos members))
-  pub text : Gives before after (item_lines (RowItem (record { kind = kind; members = members })))
+  pub reads : (s : Site) (r : Reader) → r.phase ≡ AtItem → ReadsLine s r before after (RowLine kind (map pos members))
+  pub text : GivesFront before after (item_lines (RowItem (record { kind = kind; members = members })))
   pub some : 1 ≤ length members
   pub most : length members ≤ 256
   pub built : IsTrue (is_built_kind kind)
@@ -45,28 +45,28 @@ pub record ReadsWork (before after : Option (List ℕ)) (node : ℕ) (weights : 
   pub reads : (s : Site) (r : Reader) → r.phase ≡ AtItem → ReadsTo s r before middle (WorkLine (pos node) (pos (length weights)) ∷ weight_lines weights) (record r { phase = AtWeights node 0 weights })
   pub raw : RawAct
   pub act_is : act_from raw ≡ act
-  pub reads_act : (s : Site) (r : Reader) → r.phase ≡ AtWeights node 0 weights → ReadsLineOf s r middle after (ActLine raw)
-  pub text : Gives before after (item_lines (WorkItem node weights act))
+  pub reads_act : (s : Site) (r : Reader) → r.phase ≡ AtWeights node 0 weights → ReadsLine s r middle after (ActLine raw)
+  pub text : GivesFront before after (item_lines (WorkItem node weights act))
   pub first : 1 ≤ node
   pub few : length weights ≤ most_weights
 
 -- the line with the number of cables is read
-pub record ReadsLayout (before after : Option (List ℕ)) (count : ℕ) : Type 0 where
+pub record ReadsLayoutLine (before after : Option (List ℕ)) (count : ℕ) : Type 0 where
   pub reads : (s : Site) (r : Reader) → r.phase ≡ AtItem → ReadsTo s r before after (LayoutLine (pos count) ∷ []) (record r { phase = AtCables count })
-  pub text : Gives before after (line (codes "layout" ∷ decimal count ∷ []))
+  pub text : GivesFront before after (line (codes "layout" ∷ decimal count ∷ []))
   pub most : count ≤ 256
 
 -- what is read of an item, of these weights where it is a work, or of the layout's line, and how many lines
 abbrev pub ReadsStep : Option (List ℕ) → Option (List ℕ) → ℕ → ℕ → List (ℕ × ℤ) → Step → Type 0
-ReadsStep before after old new weights (RowStep kind member) = ReadsRow before after kind (member ∷ []) × (new ≡ counted old 1)
-ReadsStep before after old new weights (WorkStep node act) = ReadsWork before after node weights act × (new ≡ counted old (2 + length weights))
-ReadsStep before after old new weights (LayoutStep count) = ReadsLayout before after count × (new ≡ counted old 1)
+ReadsStep before after old new weights (RowStep kind member) = ReadsRow before after kind (member ∷ []) × (new ≡ line_number_after old 1)
+ReadsStep before after old new weights (WorkStep node act) = ReadsWork before after node weights act × (new ≡ line_number_after old (2 + length weights))
+ReadsStep before after old new weights (LayoutStep count) = ReadsLayoutLine before after count × (new ≡ line_number_after old 1)
 
 -- what a call for the next item reads, how many lines, and what is held then
 abbrev pub ReadsNext : Option (List ℕ) → Option (List ℕ) → ℕ → ℕ → ItemsState → Result Next ItemFault → Type 0
-ReadsNext before after old new held (Ok Row) = ReadsRow before after held.kind held.members × (new ≡ counted old 1)
-ReadsNext before after old new held (Ok WorkNext) = ReadsWork before after held.work.node held.work.weights held.work.act × (new ≡ counted old (2 + length held.work.weights))
-ReadsNext before after old new held (Ok (Layout count)) = ReadsLayout before after count × (new ≡ counted old 1)
+ReadsNext before after old new held (Ok Row) = ReadsRow before after held.kind held.members × (new ≡ line_number_after old 1)
+ReadsNext before after old new held (Ok WorkNext) = ReadsWork before after held.work.node held.work.weights held.work.act × (new ≡ line_number_after old (2 + length held.work.weights))
+ReadsNext before after old new held (Ok (Layout count)) = ReadsLayoutLine before after count × (new ≡ line_number_after old 1)
 ReadsNext before after old new held (Err fault) = Unit {0}
 
 -- the fault that is kept after such an answer
@@ -78,27 +78,27 @@ kept_after (Err fault) = Some fault
 abbrev pub ReadsItemLine : Option (List ℕ) → Option (List ℕ) → ItemLine → Type 0
 ReadsItemLine before after (RowItemLine kind member) = ReadsRow before after kind (member ∷ [])
 ReadsItemLine before after (WorkItemLine node count) =
-    (1 ≤ node) × (count ≤ most_weights) × Gives before after (line (codes "work" ∷ decimal node ∷ decimal count ∷ []))
+    (1 ≤ node) × (count ≤ most_weights) × GivesFront before after (line (codes "work" ∷ decimal node ∷ decimal count ∷ []))
     × ((s : Site) (r : Reader) → r.phase ≡ AtItem → ReadsTo s r before after (WorkLine (pos node) (pos count) ∷ []) (record r { phase = AtWeights node count [] }))
-ReadsItemLine before after (LayoutItemLine count) = ReadsLayout before after count
+ReadsItemLine before after (LayoutItemLine count) = ReadsLayoutLine before after count
 
 -- the line of a weight is read, where one is to come; the weight is from -2 ^ 76 to 2 ^ 76
 pub record ReadsWeight (before after : Option (List ℕ)) (weight : ℕ × ℤ) : Type 0 where
   pub reads : (s : Site) (r : Reader) (v k : ℕ) (weights : List (ℕ × ℤ)) → r.phase ≡ AtWeights v (suc k) weights → ReadsTo s r before after (WeightLine (pos weight.0) weight.1 ∷ []) (record r { phase = AtWeights v k (weights ++ weight ∷ []) })
-  pub text : Gives before after (weight_line weight)
+  pub text : GivesFront before after (weight_line weight)
   pub small : (neg_ℤ (pos 75557863725914323419136) ≤ℤ weight.1) × (weight.1 ≤ℤ pos 75557863725914323419136)
 
 -- the lines of these weights are read, the first of a work, and so many are to come
 pub record ReadsWeights (before after : Option (List ℕ)) (weights : List (ℕ × ℤ)) : Type 0 where
   pub reads : (s : Site) (r : Reader) (v left : ℕ) → r.phase ≡ AtWeights v (length weights + left) [] → ReadsTo s r before after (weight_lines weights) (record r { phase = AtWeights v left weights })
-  pub text : Gives before after (concat (map weight_line weights))
+  pub text : GivesFront before after (concat (map weight_line weights))
 
 -- the line of an act is read, whatever the weights are
 pub record ReadsAct (before after : Option (List ℕ)) (act : Act) : Type 0 where
   pub raw : RawAct
   pub act_is : act_from raw ≡ act
-  pub reads : (s : Site) (r : Reader) (v : ℕ) (weights : List (ℕ × ℤ)) → r.phase ≡ AtWeights v 0 weights → ReadsLineOf s r before after (ActLine raw)
-  pub text : Gives before after (act_line act)
+  pub reads : (s : Site) (r : Reader) (v : ℕ) (weights : List (ℕ × ℤ)) → r.phase ≡ AtWeights v 0 weights → ReadsLine s r before after (ActLine raw)
+  pub text : GivesFront before after (act_line act)
 
 -- the lines of a work behind its first are read
 pub record ReadsRest (before after : Option (List ℕ)) (weights : List (ℕ × ℤ)) (act : Act) : Type 0 where

@@ -2,7 +2,7 @@
 use Rattle.std.specs.Prelude.{◌≡◌, ℕ, pos, List, [], ◌∷◌, IsTrue}
 use Rattle.cable_definitions.specs.declared.claim.Cause.{Cause}
 use Rattle.cable_definitions.specs.declared.claim.Cause.TheVariants.{Form, Limit}
-use Rattle.cable_definitions.specs.Refusal.{DocLine, RowLine, WorkLine, LayoutLine, RawClaim, AnOptimal, AGap, AnOpen, AnInfeasible, Phase, spelling, HasMembers, is_allowed, IsWithinLimits}
+use Rattle.cable_definitions.specs.Refusal.{DocLine, RowLine, WorkLine, LayoutLine, RawClaim, AnOptimal, AGap, AnOpen, AnInfeasible, Phase, line_spelling, HasMembers, is_allowed, IsWithinLimits}
 use Rattle.proof_text.specs.declared.judging.ItemLine.{ItemLine}
 use Rattle.proof_text.specs.declared.judging.ItemLine.TheVariants.{Row, Work, Layout}
 use Rattle.proof_text.specs.declared.judging.NamedClaim.{NamedClaim}
@@ -10,12 +10,12 @@ use Rattle.proof_text.specs.declared.judging.NamedClaim.TheVariants.{Optimal, Ga
 
 -- the words are a line that may stand there
 pub record IsStanding (phase : Phase) (ws : List (List ℕ)) (l : DocLine) : Type 0 where
-  pub words_are : ws ≡ spelling l
+  pub words_are : ws ≡ line_spelling l
   pub members : HasMembers l
   pub allowed : IsTrue (is_allowed phase l)
 
 -- the words are a line that may stand there, with its numbers within their limits
-pub record IsGood (phase : Phase) (ws : List (List ℕ)) (l : DocLine) : Type 0 where
+pub record IsGoodLine (phase : Phase) (ws : List (List ℕ)) (l : DocLine) : Type 0 where
   pub standing : IsStanding phase ws l
   pub limits : IsWithinLimits l
 

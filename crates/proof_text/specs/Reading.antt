@@ -5,13 +5,13 @@ use Rattle.cable_definitions.specs.Site.{Site}
 use Rattle.cable_definitions.specs.Text.{Piece, Whole, IsNext}
 use Rattle.cable_definitions.specs.Refusal.{DocLine, Reader, ReadsLines, IsReadable, IsFoundByReading, IsLeastCause}
 use Rattle.cable_definitions.specs.declared.claim.Refusal.{Refusal}
-use Rattle.cable_text.specs.Lines.{Finds}
+use Rattle.cable_text.specs.Lines.{StandsNext}
 use Rattle.proof_text.specs.declared.fault.ItemFault.{ItemFault}
 use Rattle.proof_text.specs.declared.fault.ItemFault.TheVariants.{Refused, Read}
 
 -- the number of the line that comes so many after these, which stands still at its last value
-abbrev pub counted : ℕ → ℕ → ℕ
-counted lines k = min (lines + k) (2 ^ 64 - 1)
+abbrev pub line_number_after : ℕ → ℕ → ℕ
+line_number_after lines k = min (lines + k) (2 ^ 64 - 1)
 
 -- Where the source tells its bytes, they begin with lines that lead the reader from `start` to `e`, whatever the arcs are, and the rest is to come. A
 -- source that tells nothing goes on so.
@@ -20,8 +20,8 @@ ReadsTo s start None after ls e = after ≡ None
 ReadsTo s start (Some bytes) after ls e = (rest : List ℕ) × (after ≡ Some rest) × ((arcs : List CandidateArc) → ReadsLines s arcs start bytes ls e rest)
 
 -- the next line may stand where the reader stands, and no cause is found by reading it
-abbrev pub ReadsLineOf : Site → Reader → Option (List ℕ) → Option (List ℕ) → DocLine → Type 0
-ReadsLineOf s r before after l = (text : List ℕ) × IsReadable s r (Whole text) l × Finds before (Whole text) after
+abbrev pub ReadsLine : Site → Reader → Option (List ℕ) → Option (List ℕ) → DocLine → Type 0
+ReadsLine s r before after l = (text : List ℕ) × IsReadable s r (Whole text) l × StandsNext before (Whole text) after
 
 -- the first line at which a cause is found by reading, behind lines that are read, with its first cause
 pub record IsRefusedHere (s : Site) (start : Reader) (bytes : List ℕ) (lines : ℕ) (refusal : Refusal) : Type 0 where
@@ -33,7 +33,7 @@ pub record IsRefusedHere (s : Site) (start : Reader) (bytes : List ℕ) (lines :
   pub rest : List ℕ
   pub next : IsNext left piece rest
   pub first : IsLeastCause (IsFoundByReading s reader piece) refusal.cause
-  pub line_is : refusal.line ≡ counted lines (1 + length read_lines)
+  pub line_is : refusal.line ≡ line_number_after lines (1 + length read_lines)
 
 -- the same where the source tells its bytes
 abbrev pub RefusedAfter : Site → Reader → Option (List ℕ) → ℕ → Refusal → Type 0

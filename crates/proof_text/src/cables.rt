@@ -6,13 +6,13 @@ ghost use Rattle.cable_definitions.specs.declared.cable.Cable.{Cable as AnyCable
 ghost use Rattle.cable_definitions.specs.Text.{cable_line};
 ghost use Rattle.cable_definitions.specs.Site.{IsValid};
 ghost use Rattle.cable_definitions.specs.Refusal.{Reader, DocLine};
-ghost use Rattle.cable_text.specs.Stream.{Rose, Gives};
+ghost use Rattle.cable_text.specs.Stream.{Rose, GivesFront};
 ghost use Rattle.cable_text.specs.Lines.{ahead};
 ghost use Rattle.proof_text.specs.Words.{held};
 ghost use Rattle.proof_text.specs.Numbers.{Is};
 ghost use Rattle.proof_text.specs.declared.number.Number.TheVariants.{Small};
-ghost use Rattle.proof_text.specs.Cables.{IsListed, IsNamed, IsAhead, IsCableLine, IsNoCable, ReadsCables, cables_left};
-ghost use Rattle.proof_text.specs.Reading.{counted, ReadsTo, RefusedAfter, IfRefused, IfRead};
+ghost use Rattle.proof_text.specs.Cables.{HasNumbersOf, IsCableNamed, IsAhead, IsCableLine, IsNoCable, ReadsCables, cables_left};
+ghost use Rattle.proof_text.specs.Reading.{line_number_after, ReadsTo, RefusedAfter, IfRefused, IfRead};
 
 use crate::fault::ItemFault;
 use crate::named::point_named;
@@ -48,8 +48,8 @@ fn grade_in(site: &Site, number: Number) -> Option<u32>
 
 /// The cable between the points of these names, with this type; none where there is none.
 fn cable_named(site: &Site, from: &[u8], to: &[u8], grade: Number) -> Option<Cable>
-    ensures some { IfSome result (λ c. (z : ℤ) → Is grade z → IsNamed site.now from.now to.now z c) }
-    ensures none { IfNone result ((z : ℤ) → Is grade z → (c : AnyCable) → ¬ (IsNamed site.now from.now to.now z c)) }
+    ensures some { IfSome result (λ c. (z : ℤ) → Is grade z → IsCableNamed site.now from.now to.now z c) }
+    ensures none { IfNone result ((z : ℤ) → Is grade z → (c : AnyCable) → ¬ (IsCableNamed site.now from.now to.now z c)) }
     ensures valid { IsValid site.now }
 {
     let Some(from) = point_named(site, from) else {
@@ -112,11 +112,11 @@ fn read_cable<S: Source>(
     requires { lines.old.kept ≡ None }
     ensures reads { IfOk result (λ c. (l : DocLine) × ((r : Reader) (k : ℕ) → r.phase ≡ cables_left ordered (suc k) → r.cables ≡ cables.now
         → ReadsTo site.now r (ahead lines.old.pending (S.left src.old)) (ahead lines.new.pending (S.left src.new)) (l ∷ []) (record r { phase = cables_left ordered k; cables = cables.now ++ c ∷ [] }))) }
-    ensures text { IfOk result (λ c. Gives (ahead lines.old.pending (S.left src.old)) (ahead lines.new.pending (S.left src.new)) (cable_line site.now c)) }
-    ensures listed { IfOk result (λ c. IsListed site.now c) }
+    ensures text { IfOk result (λ c. GivesFront (ahead lines.old.pending (S.left src.old)) (ahead lines.new.pending (S.left src.new)) (cable_line site.now c)) }
+    ensures listed { IfOk result (λ c. HasNumbersOf site.now c) }
     ensures in_order { IfOk result (λ c. IsAhead ordered cables.now c) }
     ensures kept { OnOk result (lines.new.kept ≡ None) }
-    ensures lines { OnOk result (lines.new.lines ≡ counted lines.old.lines 1) }
+    ensures lines { OnOk result (lines.new.lines ≡ line_number_after lines.old.lines 1) }
     ensures refused { IfRefused result (λ refusal. (r : Reader) (k : ℕ) → r.phase ≡ cables_left ordered (suc k) → r.cables ≡ cables.now
         → RefusedAfter site.now r (ahead lines.old.pending (S.left src.old)) lines.old.lines refusal) }
     ensures read { IfRead result (Rose (S.faults src.old) (S.faults src.new)) }
@@ -151,12 +151,12 @@ pub fn read_layout<S: Source>(
     requires empty { into.old ≡ [] }
     requires most { count ≤ 256 }
     ensures reads { OnOk result (ReadsCables site.now ordered count 0 (ahead lines.old.pending (S.left src.old)) (ahead lines.new.pending (S.left src.new)) into.new) }
-    ensures text { OnOk result (Gives (ahead lines.old.pending (S.left src.old)) (ahead lines.new.pending (S.left src.new)) (concat (map (cable_line site.now) into.new))) }
+    ensures text { OnOk result (GivesFront (ahead lines.old.pending (S.left src.old)) (ahead lines.new.pending (S.left src.new)) (concat (map (cable_line site.now) into.new))) }
     ensures size { OnOk result (length into.new ≡ count) }
-    ensures listed { OnOk result (All (IsListed site.now) into.new) }
+    ensures listed { OnOk result (All (HasNumbersOf site.now) into.new) }
     ensures in_order { OnOk result (IsTrue ordered → AllPairs (λ c d. c.from < d.from) into.new) }
     ensures kept { OnOk result (lines.new.kept ≡ None) }
-    ensures lines { OnOk result (1 ≤ count → lines.new.lines ≡ counted lines.old.lines count) }
+    ensures lines { OnOk result (1 ≤ count → lines.new.lines ≡ line_number_after lines.old.lines count) }
     ensures no_lines { OnOk result (count ≡ 0 → lines.new.lines ≡ lines.old.lines) }
     ensures refused { IfRefused result (λ refusal. (r : Reader) → r.phase ≡ cables_left ordered count → r.cables ≡ []
         → RefusedAfter site.now r (ahead lines.old.pending (S.left src.old)) lines.old.lines refusal) }

@@ -6,10 +6,10 @@ ghost use Rattle.cable_definitions.specs.Site.{Site as SiteValue};
 ghost use Rattle.cable_definitions.specs.Command.{IsBudget};
 ghost use Rattle.cable_definitions.specs.Text.{line};
 ghost use Rattle.cable_definitions.specs.Refusal.{Reader, BudgetLine, AtBudget, AtItem, AtWeights, RawAct, ActLine, act_from};
-ghost use Rattle.cable_text.specs.Stream.{Rose, Gives};
+ghost use Rattle.cable_text.specs.Stream.{Rose, GivesFront};
 ghost use Rattle.cable_text.specs.Lines.{ahead};
 ghost use Rattle.proof_text.specs.Items.{ReadsItemLine, ReadsWeight, ReadsWeights, ReadsAct, ReadsRest, ReadsStep, ReadsNext, kept_after};
-ghost use Rattle.proof_text.specs.Reading.{counted, ReadsTo, ReadsLineOf, RefusedAfter, IfRefused, IfRead};
+ghost use Rattle.proof_text.specs.Reading.{line_number_after, ReadsTo, ReadsLine, RefusedAfter, IfRefused, IfRead};
 
 use crate::fault::ItemFault;
 use crate::judging::{ItemLine, act_in, budget_in, item_in, weight_in};
@@ -42,10 +42,10 @@ fn read_budget<S: Source>(lines: &mut Lines, src: &mut S) -> Result<u32, ItemFau
     requires { lines.old.kept ≡ None }
     ensures reads { IfOk result (λ n. (s : SiteValue) (r : Reader) → r.phase ≡ AtBudget
         → ReadsTo s r (ahead lines.old.pending (S.left src.old)) (ahead lines.new.pending (S.left src.new)) (BudgetLine (pos n) ∷ []) (record r { phase = AtItem; budget = n })) }
-    ensures text { IfOk result (λ n. Gives (ahead lines.old.pending (S.left src.old)) (ahead lines.new.pending (S.left src.new)) (line (codes "budget" ∷ decimal n ∷ []))) }
+    ensures text { IfOk result (λ n. GivesFront (ahead lines.old.pending (S.left src.old)) (ahead lines.new.pending (S.left src.new)) (line (codes "budget" ∷ decimal n ∷ []))) }
     ensures range { IfOk result (λ n. IsBudget n) }
     ensures kept { OnOk result (lines.new.kept ≡ None) }
-    ensures lines { OnOk result (lines.new.lines ≡ counted lines.old.lines 1) }
+    ensures lines { OnOk result (lines.new.lines ≡ line_number_after lines.old.lines 1) }
     ensures refused { IfRefused result (λ refusal. (s : SiteValue) (r : Reader) → r.phase ≡ AtBudget
         → RefusedAfter s r (ahead lines.old.pending (S.left src.old)) lines.old.lines refusal) }
     ensures read { IfRead result (Rose (S.faults src.old) (S.faults src.new)) }
@@ -66,7 +66,7 @@ fn read_item<S: Source>(lines: &mut Lines, src: &mut S) -> Result<ItemLine, Item
     ensures reads { IfOk result (λ item. ReadsItemLine (ahead lines.old.pending (S.left src.old)) (ahead lines.new.pending (S.left src.new)) item) }
     ensures kept { OnOk result (lines.new.kept ≡ None) }
     ensures number { OnOk result (lines.new.number ≡ lines.new.lines) }
-    ensures lines { OnOk result (lines.new.lines ≡ counted lines.old.lines 1) }
+    ensures lines { OnOk result (lines.new.lines ≡ line_number_after lines.old.lines 1) }
     ensures refused { IfRefused result (λ refusal. (s : SiteValue) (r : Reader) → r.phase ≡ AtItem
         → RefusedAfter s r (ahead lines.old.pending (S.left src.old)) lines.old.lines refusal) }
     ensures read { IfRead result (Rose (S.faults src.old) (S.faults src.new)) }
@@ -86,7 +86,7 @@ fn read_weight<S: Source>(lines: &mut Lines, src: &mut S) -> Result<(u32, i128),
     requires { lines.old.kept ≡ None }
     ensures reads { IfOk result (λ weight. ReadsWeight (ahead lines.old.pending (S.left src.old)) (ahead lines.new.pending (S.left src.new)) weight) }
     ensures kept { OnOk result (lines.new.kept ≡ None) }
-    ensures lines { OnOk result (lines.new.lines ≡ counted lines.old.lines 1) }
+    ensures lines { OnOk result (lines.new.lines ≡ line_number_after lines.old.lines 1) }
     ensures refused { IfRefused result (λ refusal. (s : SiteValue) (r : Reader) (v k : ℕ) (weights : List (ℕ × ℤ)) → r.phase ≡ AtWeights v (suc k) weights
         → RefusedAfter s r (ahead lines.old.pending (S.left src.old)) lines.old.lines refusal) }
     ensures read { IfRead result (Rose (S.faults src.old) (S.faults src.new)) }
@@ -113,7 +113,7 @@ fn read_weights<S: Source>(
     ensures reads { OnOk result (ReadsWeights (ahead lines.old.pending (S.left src.old)) (ahead lines.new.pending (S.left src.new)) weights.new) }
     ensures length { OnOk result (length weights.new ≡ count) }
     ensures kept { OnOk result (lines.new.kept ≡ None) }
-    ensures lines { OnOk result (counted lines.new.lines 1 ≡ counted lines.old.lines (count + 1)) }
+    ensures lines { OnOk result (line_number_after lines.new.lines 1 ≡ line_number_after lines.old.lines (count + 1)) }
     ensures refused { IfRefused result (λ refusal. (s : SiteValue) (r : Reader) (v : ℕ) → r.phase ≡ AtWeights v count []
         → RefusedAfter s r (ahead lines.old.pending (S.left src.old)) lines.old.lines refusal) }
     ensures read { IfRead result (Rose (S.faults src.old) (S.faults src.new)) }
@@ -146,7 +146,7 @@ fn read_act<S: Source>(lines: &mut Lines, src: &mut S) -> Result<Act, ItemFault>
     ensures reads { IfOk result (λ act. ReadsAct (ahead lines.old.pending (S.left src.old)) (ahead lines.new.pending (S.left src.new)) act) }
     ensures kept { OnOk result (lines.new.kept ≡ None) }
     ensures number { OnOk result (lines.new.number ≡ lines.new.lines) }
-    ensures lines { OnOk result (lines.new.lines ≡ counted lines.old.lines 1) }
+    ensures lines { OnOk result (lines.new.lines ≡ line_number_after lines.old.lines 1) }
     ensures refused { IfRefused result (λ refusal. (s : SiteValue) (r : Reader) (v : ℕ) (weights : List (ℕ × ℤ)) → r.phase ≡ AtWeights v 0 weights
         → RefusedAfter s r (ahead lines.old.pending (S.left src.old)) lines.old.lines refusal) }
     ensures read { IfRead result (Rose (S.faults src.old) (S.faults src.new)) }
@@ -174,7 +174,7 @@ fn read_work<S: Source>(
     ensures length { OnOk result (length weights.new ≡ count) }
     ensures kept { OnOk result (lines.new.kept ≡ None) }
     ensures number { OnOk result (lines.new.number ≡ lines.new.lines) }
-    ensures lines { OnOk result (lines.new.lines ≡ counted lines.old.lines (count + 1)) }
+    ensures lines { OnOk result (lines.new.lines ≡ line_number_after lines.old.lines (count + 1)) }
     ensures refused { IfRefused result (λ refusal. (s : SiteValue) (r : Reader) (v : ℕ) → r.phase ≡ AtWeights v count []
         → RefusedAfter s r (ahead lines.old.pending (S.left src.old)) lines.old.lines refusal) }
     ensures read { IfRead result (Rose (S.faults src.old) (S.faults src.new)) }
@@ -292,10 +292,10 @@ impl ItemReader {
         ensures keeps { IfNone self.old.kept (self.new ≡ record self.old { kept = kept_after result }) }
         ensures reads { IfOk result (λ n. (s : SiteValue) (r : Reader) → r.phase ≡ AtBudget
             → ReadsTo s r (ahead lines.old.pending (S.left src.old)) (ahead lines.new.pending (S.left src.new)) (BudgetLine (pos n) ∷ []) (record r { phase = AtItem; budget = n })) }
-        ensures text { IfOk result (λ n. Gives (ahead lines.old.pending (S.left src.old)) (ahead lines.new.pending (S.left src.new)) (line (codes "budget" ∷ decimal n ∷ []))) }
+        ensures text { IfOk result (λ n. GivesFront (ahead lines.old.pending (S.left src.old)) (ahead lines.new.pending (S.left src.new)) (line (codes "budget" ∷ decimal n ∷ []))) }
         ensures range { IfOk result (λ n. IsBudget n) }
         ensures kept { OnOk result (lines.new.kept ≡ None) }
-        ensures lines { OnOk result (lines.new.lines ≡ counted lines.old.lines 1) }
+        ensures lines { OnOk result (lines.new.lines ≡ line_number_after lines.old.lines 1) }
         ensures refused { IfNone self.old.kept (IfRefused result (λ refusal. (s : SiteValue) (r : Reader) → r.phase ≡ AtBudget
             → RefusedAfter s r (ahead lines.old.pending (S.left src.old)) lines.old.lines refusal)) }
         ensures read { IfNone self.old.kept (IfRead result (Rose (S.faults src.old) (S.faults src.new))) }

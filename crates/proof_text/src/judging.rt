@@ -8,7 +8,7 @@ ghost use Rattle.cable_definitions.specs.Refusal.{RawAct, RawClaim, act_from, ac
 ghost use Rattle.proof_text.specs.Words.{held};
 ghost use Rattle.proof_text.specs.Numbers.{Is};
 ghost use Rattle.proof_text.specs.Said.{IsAct, IsClaim};
-ghost use Rattle.proof_text.specs.Judged.{IsGood, IsBad, item_line, verdict_of};
+ghost use Rattle.proof_text.specs.Judged.{IsGoodLine, IsBad, item_line, verdict_of};
 
 use crate::number::{Number, count_in, sum_in, weight_of};
 use crate::said::{SaidAct, SaidClaim, act_said, claim_said, number_after, numbers_after, row_in};
@@ -48,7 +48,7 @@ pub enum NamedClaim<'a> {
 /// The budget of the line `budget N`; `Form` where the line is another, `Limit` where N is out of
 /// range.
 pub fn budget_in(words: Words) -> Result<u32, Cause>
-    ensures good { IfOk result (λ n. IsGood AtBudget (held words.entry) (BudgetLine (pos n))) }
+    ensures good { IfOk result (λ n. IsGoodLine AtBudget (held words.entry) (BudgetLine (pos n))) }
     ensures range { IfOk result (λ n. IsBudget n) }
     ensures bad { IfErr result (λ cause. IsBad AtBudget (held words.entry) cause) }
 {
@@ -64,7 +64,7 @@ pub fn budget_in(words: Words) -> Result<u32, Cause>
 /// The number of cables of the line `layout K`, where it alone may stand; `Form` where the line is
 /// another, `Limit` where K is out of range.
 pub fn layout_in(words: Words) -> Result<u32, Cause>
-    ensures good { IfOk result (λ k. IsGood AtJudged (held words.entry) (LayoutLine (pos k))) }
+    ensures good { IfOk result (λ k. IsGoodLine AtJudged (held words.entry) (LayoutLine (pos k))) }
     ensures range { IfOk result (λ k. k ≤ 256) }
     ensures bad { IfErr result (λ cause. IsBad AtJudged (held words.entry) cause) }
 {
@@ -91,7 +91,7 @@ fn last_member(kind: RowKind) -> u32
 /// The row, the work or the layout of a line; `Form` where the line is another, `Limit` where a
 /// number is out of range.
 pub fn item_in(words: Words) -> Result<ItemLine, Cause>
-    ensures good { IfOk result (λ item. IsGood AtItem (held words.entry) (item_line item)) }
+    ensures good { IfOk result (λ item. IsGoodLine AtItem (held words.entry) (item_line item)) }
     ensures bad { IfErr result (λ cause. IsBad AtItem (held words.entry) cause) }
 {
     if let Some((kind, member)) = row_in(words) {
@@ -121,7 +121,7 @@ pub fn item_in(words: Words) -> Result<ItemLine, Cause>
 /// The row and the weight of the line `by ROW WEIGHT`, where a weight is to come; `Form` where the
 /// line is another, `Limit` where a number is out of range.
 pub fn weight_in(words: Words) -> Result<(u32, i128), Cause>
-    ensures good { IfOk result (λ weight. (v k : ℕ) (weights : List (ℕ × ℤ)) → IsGood (AtWeights v (suc k) weights) (held words.entry) (WeightLine (pos weight.0) weight.1)) }
+    ensures good { IfOk result (λ weight. (v k : ℕ) (weights : List (ℕ × ℤ)) → IsGoodLine (AtWeights v (suc k) weights) (held words.entry) (WeightLine (pos weight.0) weight.1)) }
     ensures bad { IfErr result (λ cause. (v k : ℕ) (weights : List (ℕ × ℤ)) → IsBad (AtWeights v (suc k) weights) (held words.entry) cause) }
 {
     let Some((row, weight)) = numbers_after(words, b"by") else {
@@ -161,7 +161,7 @@ fn act_within(act: SaidAct) -> Option<Act>
 /// The act of a line; `Form` where the line is another, `Limit` where a number is out of range.
 pub fn act_in(words: Words) -> Result<Act, Cause>
     ensures good { IfOk result (λ a. (raw : RawAct) × (act_from raw ≡ a)
-        × ((v : ℕ) (weights : List (ℕ × ℤ)) → IsGood (AtWeights v 0 weights) (held words.entry) (ActLine raw))) }
+        × ((v : ℕ) (weights : List (ℕ × ℤ)) → IsGoodLine (AtWeights v 0 weights) (held words.entry) (ActLine raw))) }
     ensures bad { IfErr result (λ cause. (v : ℕ) (weights : List (ℕ × ℤ)) → IsBad (AtWeights v 0 weights) (held words.entry) cause) }
 {
     let Some(act) = act_said(words) else {
@@ -195,7 +195,7 @@ fn claim_within(claim: SaidClaim<'_>) -> Option<NamedClaim<'_>>
 
 /// The verdict of a line; `Form` where the line is another, `Limit` where a number is out of range.
 pub fn claim_in(words: Words<'_>) -> Result<NamedClaim<'_>, Cause>
-    ensures good { IfOk result (λ c. IsGood (AtCables 0) (held words.entry) (ClaimLine (verdict_of c))) }
+    ensures good { IfOk result (λ c. IsGoodLine (AtCables 0) (held words.entry) (ClaimLine (verdict_of c))) }
     ensures bad { IfErr result (λ cause. IsBad (AtCables 0) (held words.entry) cause) }
 {
     let Some(claim) = claim_said(words) else {
@@ -209,7 +209,7 @@ pub fn claim_in(words: Words<'_>) -> Result<NamedClaim<'_>, Cause>
 
 /// Looks for the words `end document`; `Form` where the line is another.
 pub fn end_in(words: Words) -> Result<(), Cause>
-    ensures good { IfOk result (λ _. IsGood AtLast (held words.entry) EndLine) }
+    ensures good { IfOk result (λ _. IsGoodLine AtLast (held words.entry) EndLine) }
     ensures bad { IfErr result (λ cause. IsBad AtLast (held words.entry) cause) }
 {
     if are_two(words, b"end", b"document") {

@@ -7,9 +7,9 @@ ghost use Rattle.cable_definitions.specs.Document.{IsClaimInRange};
 ghost use Rattle.cable_definitions.specs.Built.{IsBuiltClaim};
 ghost use Rattle.cable_definitions.specs.Text.{line, claim_line, HasNoNewline, Whole};
 ghost use Rattle.cable_definitions.specs.Refusal.{RawClaim, Reader, LayoutLine, ClaimLine, EndLine, AtJudged, AtAnyCables, AtCables, AtLast, Past, may_end, is_allowed, IsClaimOf, DocLine};
-ghost use Rattle.cable_text.specs.Stream.{Rose, Gives, IsAtEnd};
-ghost use Rattle.cable_text.specs.Lines.{ahead, Finds};
-ghost use Rattle.proof_text.specs.Reading.{counted, ReadsTo, ReadsLineOf, RefusedAfter, IfRefused, IfRead};
+ghost use Rattle.cable_text.specs.Stream.{Rose, GivesFront, IsAtEnd};
+ghost use Rattle.cable_text.specs.Lines.{ahead, StandsNext};
+ghost use Rattle.proof_text.specs.Reading.{line_number_after, ReadsTo, ReadsLine, RefusedAfter, IfRefused, IfRead};
 
 use crate::fault::ItemFault;
 use crate::judging::{claim_in, end_in, layout_in};
@@ -33,11 +33,11 @@ pub fn refused(lines: &Lines, cause: Cause) -> ItemFault
 /// missing is refused with the cause `Line`.
 pub fn next_line<S: Source>(lines: &mut Lines, src: &mut S) -> Result<(), ItemFault>
     requires { lines.old.kept ≡ None }
-    ensures found { OnOk result (Finds (ahead lines.old.pending (S.left src.old)) (Whole lines.new.text) (ahead lines.new.pending (S.left src.new))) }
+    ensures found { OnOk result (StandsNext (ahead lines.old.pending (S.left src.old)) (Whole lines.new.text) (ahead lines.new.pending (S.left src.new))) }
     ensures plain { OnOk result (HasNoNewline lines.new.text) }
     ensures kept { OnOk result (lines.new.kept ≡ None) }
-    ensures lines { OnOk result (lines.new.lines ≡ counted lines.old.lines 1) }
-    ensures number { lines.new.number ≡ counted lines.old.lines 1 }
+    ensures lines { OnOk result (lines.new.lines ≡ line_number_after lines.old.lines 1) }
+    ensures number { lines.new.number ≡ line_number_after lines.old.lines 1 }
     ensures refused { IfRefused result (λ refusal. (s : SiteValue) (r : Reader) → may_end r.phase ≡ false
         → RefusedAfter s r (ahead lines.old.pending (S.left src.old)) lines.old.lines refusal) }
     ensures read { IfRead result (Rose (S.faults src.old) (S.faults src.new)) }
@@ -62,10 +62,10 @@ pub fn read_count<S: Source>(lines: &mut Lines, src: &mut S) -> Result<u32, Item
     requires { lines.old.kept ≡ None }
     ensures reads { IfOk result (λ k. (s : SiteValue) (r : Reader) → r.phase ≡ AtJudged
         → ReadsTo s r (ahead lines.old.pending (S.left src.old)) (ahead lines.new.pending (S.left src.new)) (LayoutLine (pos k) ∷ []) (record r { phase = AtAnyCables k })) }
-    ensures text { IfOk result (λ k. Gives (ahead lines.old.pending (S.left src.old)) (ahead lines.new.pending (S.left src.new)) (line (codes "layout" ∷ decimal k ∷ []))) }
+    ensures text { IfOk result (λ k. GivesFront (ahead lines.old.pending (S.left src.old)) (ahead lines.new.pending (S.left src.new)) (line (codes "layout" ∷ decimal k ∷ []))) }
     ensures range { IfOk result (λ k. k ≤ 256) }
     ensures kept { OnOk result (lines.new.kept ≡ None) }
-    ensures lines { OnOk result (lines.new.lines ≡ counted lines.old.lines 1) }
+    ensures lines { OnOk result (lines.new.lines ≡ line_number_after lines.old.lines 1) }
     ensures refused { IfRefused result (λ refusal. (s : SiteValue) (r : Reader) → r.phase ≡ AtJudged
         → RefusedAfter s r (ahead lines.old.pending (S.left src.old)) lines.old.lines refusal) }
     ensures read { IfRead result (Rose (S.faults src.old) (S.faults src.new)) }
@@ -94,13 +94,13 @@ pub fn read_claim<S: Source>(
 ) -> Result<Claim, ItemFault>
     requires { lines.old.kept ≡ None }
     ensures reads { IfOk result (λ claim. (raw : RawClaim) × IsClaimOf site.now raw claim
-        × ((r : Reader) → r.phase ≡ AtCables 0 → ReadsLineOf site.now r (ahead lines.old.pending (S.left src.old)) (ahead lines.new.pending (S.left src.new)) (ClaimLine raw))) }
-    ensures text { IfOk result (λ claim. Gives (ahead lines.old.pending (S.left src.old)) (ahead lines.new.pending (S.left src.new)) (claim_line site.now claim)) }
+        × ((r : Reader) → r.phase ≡ AtCables 0 → ReadsLine site.now r (ahead lines.old.pending (S.left src.old)) (ahead lines.new.pending (S.left src.new)) (ClaimLine raw))) }
+    ensures text { IfOk result (λ claim. GivesFront (ahead lines.old.pending (S.left src.old)) (ahead lines.new.pending (S.left src.new)) (claim_line site.now claim)) }
     ensures range { IfOk result (λ claim. IsClaimInRange claim) }
     ensures built { IfOk result (λ claim. IsBuiltClaim claim) }
     ensures kept { OnOk result (lines.new.kept ≡ None) }
     ensures number { OnOk result (lines.new.number ≡ lines.new.lines) }
-    ensures lines { OnOk result (lines.new.lines ≡ counted lines.old.lines 1) }
+    ensures lines { OnOk result (lines.new.lines ≡ line_number_after lines.old.lines 1) }
     ensures refused { IfRefused result (λ refusal. (r : Reader) → r.phase ≡ AtCables 0
         → RefusedAfter site.now r (ahead lines.old.pending (S.left src.old)) lines.old.lines refusal) }
     ensures read { IfRead result (Rose (S.faults src.old) (S.faults src.new)) }
@@ -124,9 +124,9 @@ fn read_last<S: Source>(lines: &mut Lines, src: &mut S) -> Result<(), ItemFault>
     requires { lines.old.kept ≡ None }
     ensures reads { OnOk result ((s : SiteValue) (r : Reader) → r.phase ≡ AtLast
         → ReadsTo s r (ahead lines.old.pending (S.left src.old)) (ahead lines.new.pending (S.left src.new)) (EndLine ∷ []) (record r { phase = Past })) }
-    ensures text { OnOk result (Gives (ahead lines.old.pending (S.left src.old)) (ahead lines.new.pending (S.left src.new)) (line (codes "end" ∷ codes "document" ∷ []))) }
+    ensures text { OnOk result (GivesFront (ahead lines.old.pending (S.left src.old)) (ahead lines.new.pending (S.left src.new)) (line (codes "end" ∷ codes "document" ∷ []))) }
     ensures kept { OnOk result (lines.new.kept ≡ None) }
-    ensures lines { OnOk result (lines.new.lines ≡ counted lines.old.lines 1) }
+    ensures lines { OnOk result (lines.new.lines ≡ line_number_after lines.old.lines 1) }
     ensures refused { IfRefused result (λ refusal. (s : SiteValue) (r : Reader) → r.phase ≡ AtLast
         → RefusedAfter s r (ahead lines.old.pending (S.left src.old)) lines.old.lines refusal) }
     ensures read { IfRead result (Rose (S.faults src.old) (S.faults src.new)) }
@@ -141,7 +141,7 @@ fn read_last<S: Source>(lines: &mut Lines, src: &mut S) -> Result<(), ItemFault>
     }
 }
 
-/// Finds the end of the input, where it may end.
+/// StandsNext the end of the input, where it may end.
 ///
 /// # Errors
 ///
@@ -178,10 +178,10 @@ pub fn read_close<S: Source>(lines: &mut Lines, src: &mut S) -> Result<(), ItemF
     requires { lines.old.kept ≡ None }
     ensures reads { OnOk result ((s : SiteValue) (r : Reader) → r.phase ≡ AtLast
         → ReadsTo s r (ahead lines.old.pending (S.left src.old)) (ahead lines.new.pending (S.left src.new)) (EndLine ∷ []) (record r { phase = Past })) }
-    ensures text { OnOk result (Gives (ahead lines.old.pending (S.left src.old)) (ahead lines.new.pending (S.left src.new)) (line (codes "end" ∷ codes "document" ∷ []))) }
+    ensures text { OnOk result (GivesFront (ahead lines.old.pending (S.left src.old)) (ahead lines.new.pending (S.left src.new)) (line (codes "end" ∷ codes "document" ∷ []))) }
     ensures end { OnOk result (IsAtEnd (ahead lines.new.pending (S.left src.new))) }
     ensures kept { OnOk result (lines.new.kept ≡ None) }
-    ensures lines { OnOk result (lines.new.lines ≡ counted lines.old.lines 1) }
+    ensures lines { OnOk result (lines.new.lines ≡ line_number_after lines.old.lines 1) }
     ensures refused { IfRefused result (λ refusal. (s : SiteValue) (r : Reader) → r.phase ≡ AtLast
         → RefusedAfter s r (ahead lines.old.pending (S.left src.old)) lines.old.lines refusal) }
     ensures read { IfRead result (Rose (S.faults src.old) (S.faults src.new)) }

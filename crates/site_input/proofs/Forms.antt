@@ -6,17 +6,17 @@ use Rattle.std.proofs.lemmas.List.{nil_from_length, length-append}
 use Rattle.cable_definitions.specs.declared.site.SiteCode.{SiteCode}
 use Rattle.cable_definitions.specs.declared.site.SiteCode.TheVariants.{TooLong}
 use Rattle.cable_text.specs.Stream.{IsAtEnd}
-use Rattle.cable_text.specs.Lines.{ahead, LinesState, PeeksByte, IsLonger, Finds, ReadsLine, ReadsPiece, next_number}
+use Rattle.cable_text.specs.Lines.{ahead, LinesState, PeeksByte, IsLonger, StandsNext, ReadsLine, ReadsPiece, next_number}
 use Rattle.cable_text.specs.declared.fault.Line.{Line}
 use Rattle.cable_text.specs.declared.fault.Line.TheVariants.{Text, End}
 use Rattle.cable_text.specs.declared.fault.LineFault.{LineFault}
 use Rattle.cable_text.specs.declared.fault.LineFault.TheVariants.{TooLong as LongFault, NoNewline, Read}
-use Rattle.site_text.specs.Reading.{counted}
+use Rattle.site_text.specs.Reading.{lines_after}
 use Rattle.cable_definitions.specs.Items.{IsLineFault}
 use Rattle.cable_definitions.specs.Document.{IsFaultAfter, code_after}
 use Rattle.cable_definitions.specs.Text.{site_lines, line_count, Piece, Whole, LongLine, CutLine, NoLine, IsNext}
 use Rattle.cable_definitions.specs.Site.{Site, IsValid}
-use Rattle.cable_text.specs.Stream.{Gives}
+use Rattle.cable_text.specs.Stream.{GivesFront}
 use Rattle.site_model.specs.declared.fault.SiteFault.{SiteFault}
 use Rattle.site_model.specs.declared.fault.SiteFault.TheVariants.{Refused}
 use Rattle.site_json.specs.Bytes.{IsLineForm, IsJsonFault, IsWholeLineFault}
@@ -73,12 +73,12 @@ pub fresh_ahead : (pending : List ℕ) (left : Option (List ℕ)) (bytes : List 
 fresh_ahead pending left bytes e a = ap (λ p. ahead p left) e ∙ ap (ahead []) a
 
 -- the bytes behind a site
-pub behind : (before middle : Option (List ℕ)) (text bytes : List ℕ) → Gives before middle text → before ≡ Some bytes
+pub behind : (before middle : Option (List ℕ)) (text bytes : List ℕ) → GivesFront before middle text → before ≡ Some bytes
     → (rest : List ℕ) × (bytes ≡ text ++ rest) × (middle ≡ Some rest)
 behind None middle text bytes g a = absurd (none-some bytes a)
 behind (Some told) middle text bytes g a = (g.0, sym (some_of told bytes a) ∙ g.1, g.2)
 
-found_next : (middle after : Option (List ℕ)) (piece : Piece) (rest : List ℕ) → Finds middle piece after → middle ≡ Some rest → (further : List ℕ) × IsNext rest piece further
+found_next : (middle after : Option (List ℕ)) (piece : Piece) (rest : List ℕ) → StandsNext middle piece after → middle ≡ Some rest → (further : List ℕ) × IsNext rest piece further
 found_next None after piece rest f a = absurd (none-some rest a)
 found_next (Some told) after piece rest f a = (f.0, subst (λ b. IsNext b piece f.0) (some_of told rest a) f.1)
 
@@ -89,8 +89,8 @@ some_next rest further CutLine n p e = absurd (omega (arith, n.0, ap length e))
 some_next rest further NoLine n p e = p refl
 
 -- what stands behind a whole site is a fault at the next line
-pub fault_behind : (s : Site) (bytes : List ℕ) (before middle after : Option (List ℕ)) (piece : Piece) (place : ℕ) → IsValid s → Gives before middle (site_lines s) → before ≡ Some bytes
-    → Finds middle piece after → piece ≢ NoLine → place ≡ line_count (site_lines s) + 1 → IsFaultAfter bytes (code_after piece) place
+pub fault_behind : (s : Site) (bytes : List ℕ) (before middle after : Option (List ℕ)) (piece : Piece) (place : ℕ) → IsValid s → GivesFront before middle (site_lines s) → before ≡ Some bytes
+    → StandsNext middle piece after → piece ≢ NoLine → place ≡ line_count (site_lines s) + 1 → IsFaultAfter bytes (code_after piece) place
 fault_behind s bytes before middle after piece place v g a f p e =
     let b = behind before middle (site_lines s) bytes g a in
     let n = found_next middle after piece b.0 f b.2 in
@@ -100,7 +100,7 @@ pub fault_after_at : (bytes : List ℕ) (code other : SiteCode) (place second : 
 fault_after_at bytes code other place second e h = subst (λ k. IsFaultAfter bytes k place) e.0 (subst (λ p. IsFaultAfter bytes other p) e.1 h)
 
 -- the number of the line behind a site whose lines are counted from the first
-pub next_place : (number lines old count : ℕ) → number ≡ next_number lines → lines ≡ counted old count → old ≡ 0 → count ≤ 34100 → number ≡ count + 1
+pub next_place : (number lines old count : ℕ) → number ≡ next_number lines → lines ≡ lines_after old count → old ≡ 0 → count ≤ 34100 → number ≡ count + 1
 next_place number lines old count e f g h = omega (arith, e, f, g, h)
 
 -- a source with nothing ahead has nothing left
@@ -111,7 +111,7 @@ left_at_end pending (Some bytes) h = nil_from_length bytes (omega (arith, ap len
 unkept : {F : Type 0} (kept : Option F) (P : Type 0) → kept ≡ None → IfNone kept P → P
 unkept kept P e h = subst (λ o. IfNone o P) e h
 
-at_no_line : (old new : Option (List ℕ)) → Finds old NoLine new → IsAtEnd new
+at_no_line : (old new : Option (List ℕ)) → StandsNext old NoLine new → IsAtEnd new
 at_no_line None new f = subst IsAtEnd (sym f) tt
 at_no_line (Some bytes) new f = subst IsAtEnd (sym f.2) f.1.1
 
@@ -138,7 +138,7 @@ piece_of text (Err NoNewline) = CutLine
 piece_of text (Err Read) = NoLine
 
 found_piece : (old new : Option (List ℕ)) (text : List ℕ) (i j : ℕ) (result : Result Line LineFault) → ReadsPiece old new text i j result → result ≢ Err Read
-    → Finds old (piece_of text result) new
+    → StandsNext old (piece_of text result) new
 found_piece old new text i j (Ok Text) p n = p.0
 found_piece old new text i j (Ok End) p n = p
 found_piece old new text i j (Err LongFault) p n = p
@@ -164,15 +164,15 @@ read_is_none text piece result q p e = p (sym q ∙ ap (piece_of text) e)
 -- a line behind a whole site, or what stands there in place of one, is the fault that is answered
 pub refused_behind : {A : Type 0} → (old lines new : LinesState) (left_old left left_new : Option (List ℕ)) (i j : ℕ) (result : Result Line LineFault) (site : Site) (refusal : SiteFault) (at : ℕ)
     (bytes : List ℕ) (code other : SiteCode) (place : ℕ) (broken : Bool) (piece : Piece)
-    → IsValid site → Gives (ahead old.pending left_old) (ahead lines.pending left) (site_lines site) → ahead old.pending left_old ≡ Some bytes
+    → IsValid site → GivesFront (ahead old.pending left_old) (ahead lines.pending left) (site_lines site) → ahead old.pending left_old ≡ Some bytes
     → lines.kept ≡ None → IfNone lines.kept (ReadsLine lines new left left_new i j result)
     → piece_of new.text result ≡ piece → ¬ (piece ≡ NoLine) → other ≡ code_after piece
-    → lines.lines ≡ counted old.lines (line_count (site_lines site)) → old.lines ≡ 0 → line_count (site_lines site) ≤ 34100
+    → lines.lines ≡ lines_after old.lines (line_count (site_lines site)) → old.lines ≡ 0 → line_count (site_lines site) ≤ 34100
     → at ≡ new.number → ◌≡◌ {A = Result A SiteFault} (Err refusal) (Err (Refused code place broken)) → refusal ≡ Refused other at false
     → IsWholeLineFault bytes code place
 refused_behind {A = A} old lines new left_old left left_new i j result site refusal at bytes code other place broken piece v gives a k r q p o count zero few number e f =
     let reads = unkept lines.kept (ReadsLine lines new left left_new i j result) k r in
     let same = same_refusal {A = A} refusal code other place at broken false e f in
-    let found = subst (λ x. Finds (ahead lines.pending left) x (ahead new.pending left_new)) q (found_piece _ _ new.text i j result reads.piece (read_is_none new.text piece result q p)) in
+    let found = subst (λ x. StandsNext (ahead lines.pending left) x (ahead new.pending left_new)) q (found_piece _ _ new.text i j result reads.piece (read_is_none new.text piece result q p)) in
     let fault = fault_behind site bytes _ _ _ piece at v gives a found p (number ∙ next_place new.number lines.lines old.lines (line_count (site_lines site)) reads.number count zero few) in
     inr (fault_after_at bytes code (code_after piece) place at (sym o ∙ same.0, same.1) fault)

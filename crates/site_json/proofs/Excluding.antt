@@ -15,10 +15,10 @@ use Rattle.site_laws.proofs.Fronts.{no_fault_in_front, one_in_front}
 use Rattle.site_laws.proofs.Pieces.{same_piece}
 use Rattle.site_laws.proofs.Runs.{line_fault_same}
 use Rattle.site_json.specs.Tree.{is_top, raw_items}
-use Rattle.site_json.specs.Bytes.{IsTree, IsJsonSite, IsJsonFault, too_long, unreadable, other_top, of_items, IsLineForm, IsSiteOf, IsFrontSite, IsWholeLineFault, IsPlanFault, IsFrontFault}
+use Rattle.site_json.specs.Bytes.{IsJsonTree, IsJsonSite, IsJsonFault, too_long, unreadable, other_top, of_items, IsLineForm, IsSiteOf, IsFrontSite, IsWholeLineFault, IsPlanFault, IsFrontFault}
 
 -- bytes are one tree
-same_tree : (bytes : List ℕ) (d e : Data) → IsTree bytes d → IsTree bytes e → d ≡ e
+same_tree : (bytes : List ℕ) (d e : Data) → IsJsonTree bytes d → IsJsonTree bytes e → d ≡ e
 same_tree bytes d e t u = let first = t.1 in let second = u.1 in cc
 
 -- a JSON site has no fault
@@ -43,9 +43,9 @@ json_same bytes s t first second =
 pub record Told (bytes : List ℕ) (code : SiteCode) (place : ℕ) : Type 0 where
   pub short : (8388608 < length bytes) ⊎ (length bytes ≤ 8388608)
   pub long : 8388608 < length bytes → (code ≡ TooLong) × (place ≡ 0)
-  pub none : length bytes ≤ 8388608 → ((tree : Data) → ¬ (IsTree bytes tree)) → (code ≡ Form) × (place ≡ 0)
-  pub some : length bytes ≤ 8388608 → ((tree : Data) → ¬ (IsTree bytes tree)) ⊎ ((tree : Data) × IsTree bytes tree)
-  pub other : (tree : Data) → length bytes ≤ 8388608 → IsTree bytes tree → (¬ (IsTrue (is_top tree)) × (code ≡ Shape) × (place ≡ 1)) ⊎ (IsTrue (is_top tree) × IsItemFault (raw_items tree) code place)
+  pub none : length bytes ≤ 8388608 → ((tree : Data) → ¬ (IsJsonTree bytes tree)) → (code ≡ Form) × (place ≡ 0)
+  pub some : length bytes ≤ 8388608 → ((tree : Data) → ¬ (IsJsonTree bytes tree)) ⊎ ((tree : Data) × IsJsonTree bytes tree)
+  pub other : (tree : Data) → length bytes ≤ 8388608 → IsJsonTree bytes tree → (¬ (IsTrue (is_top tree)) × (code ≡ Shape) × (place ≡ 1)) ⊎ (IsTrue (is_top tree) × IsItemFault (raw_items tree) code place)
 
 told : (bytes : List ℕ) (code : SiteCode) (place : ℕ) → IsJsonFault bytes code place → Told bytes code place
 told bytes code place fault = elim fault as (λ k p _. Told bytes k p) [

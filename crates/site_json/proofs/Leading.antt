@@ -6,7 +6,7 @@ use Rattle.serde_json.specs.View.{view}
 use Rattle.serde_json.specs.declared.value.Value.{Value}
 use Rattle.cable_definitions.specs.declared.site.SiteCode.{SiteCode}
 use Rattle.cable_definitions.specs.Items.{Draft, RawItem, Builds, IsGood, Adds, IsFirstCode, IsItemFault, empty_draft}
-use Rattle.site_json.specs.Faults.{Leads, Fails}
+use Rattle.site_json.specs.Faults.{LeadsOn, Fails}
 
 -- good items behind good items
 pub Builds-append : (d e f : Draft) (xs ys : List RawItem) → Builds d xs e → Builds e ys f → Builds d (xs ++ ys) f
@@ -14,20 +14,20 @@ Builds-append d e f [] ys b c = subst (λ (g : Draft). Builds g ys f) b c
 Builds-append d e f (x ∷ xs) ys (g, good, adds, rest) c = (g, good, adds, Builds-append g e f xs ys rest c)
 
 -- no item changes nothing
-pub Leads-none : (d : Draft) (a : ℕ) → Leads d a [] d a
+pub Leads-none : (d : Draft) (a : ℕ) → LeadsOn d a [] d a
 Leads-none d a = record { builds = refl; counted = omega arith }
 
 -- one good item
-pub Leads-one : (d e : Draft) (a : ℕ) (item : RawItem) → IsGood d item → Adds d item e → Leads d a (item ∷ []) e (a + 1)
+pub Leads-one : (d e : Draft) (a : ℕ) (item : RawItem) → IsGood d item → Adds d item e → LeadsOn d a (item ∷ []) e (a + 1)
 Leads-one d e a item good adds = record { builds = (e, good, adds, refl); counted = omega arith }
 
 -- further items
-pub Leads-append : (d e f : Draft) (a b c : ℕ) (xs ys : List RawItem) → Leads d a xs e b → Leads e b ys f c → Leads d a (xs ++ ys) f c
+pub Leads-append : (d e f : Draft) (a b c : ℕ) (xs ys : List RawItem) → LeadsOn d a xs e b → LeadsOn e b ys f c → LeadsOn d a (xs ++ ys) f c
 Leads-append d e f a b c xs ys l m = record { builds = Builds-append d e f xs ys l.builds m.builds; counted = omega (arith, length-append xs ys, l.counted, m.counted) }
 
 -- nothing behind the items
-pub Leads-end : (d e : Draft) (a b : ℕ) (xs : List RawItem) → Leads d a xs e b → Leads d a (xs ++ []) e b
-Leads-end d e a b xs l = subst (λ (zs : List RawItem). Leads d a zs e b) (sym (append-nil xs)) l
+pub Leads-end : (d e : Draft) (a b : ℕ) (xs : List RawItem) → LeadsOn d a xs e b → LeadsOn d a (xs ++ []) e b
+Leads-end d e a b xs l = subst (λ (zs : List RawItem). LeadsOn d a zs e b) (sym (append-nil xs)) l
 
 -- the first item is at fault
 pub Fails-one : (d : Draft) (a : ℕ) (item : RawItem) (code : SiteCode) (place : ℕ) (broken : Bool) → IsFirstCode d item code → place ≡ a + 1 → broken ≡ false → Fails d a (item ∷ []) code place broken
@@ -58,7 +58,7 @@ Fails-front d a xs ys code place broken f = record {
 }
 
 -- a fault behind good items
-pub Fails-behind : (d e : Draft) (a b : ℕ) (xs ys : List RawItem) (code : SiteCode) (place : ℕ) (broken : Bool) → Leads d a xs e b → Fails e b ys code place broken → Fails d a (xs ++ ys) code place broken
+pub Fails-behind : (d e : Draft) (a b : ℕ) (xs ys : List RawItem) (code : SiteCode) (place : ℕ) (broken : Bool) → LeadsOn d a xs e b → Fails e b ys code place broken → Fails d a (xs ++ ys) code place broken
 Fails-behind d e a b xs ys code place broken l f = record {
   good = xs ++ f.good;
   bad = f.bad;
@@ -112,21 +112,21 @@ items_around F j vs i v l is =
 
 -- the items of one member more
 pub Leads-more : (F : List Data → List RawItem) (j : Joins F) (vs : List Value) (i : ℕ) (v : Value) (d e f : Draft) (a b c : ℕ) → i < length vs → v ≡ get_or vs i v
-    → Leads d a (F (map view (take i vs))) e b → Leads e b (F (view v ∷ [])) f c → Leads d a (F (map view (take (i + 1) vs))) f c
+    → LeadsOn d a (F (map view (take i vs))) e b → LeadsOn e b (F (view v ∷ [])) f c → LeadsOn d a (F (map view (take (i + 1) vs))) f c
 Leads-more F j vs i v d e f a b c l is before here =
-    subst (λ (zs : List RawItem). Leads d a zs f c) (sym (items_more F j vs i v l is)) (Leads-append d e f a b c _ _ before here)
+    subst (λ (zs : List RawItem). LeadsOn d a zs f c) (sym (items_more F j vs i v l is)) (Leads-append d e f a b c _ _ before here)
 
 -- the fault of a member behind others
 pub Fails-more : (F : List Data → List RawItem) (j : Joins F) (vs : List Value) (i : ℕ) (v : Value) (d e : Draft) (a b : ℕ) (code : SiteCode) (place : ℕ) (broken : Bool) → i < length vs → v ≡ get_or vs i v
-    → Leads d a (F (map view (take i vs))) e b → Fails e b (F (view v ∷ [])) code place broken → Fails d a (F (map view vs)) code place broken
+    → LeadsOn d a (F (map view (take i vs))) e b → Fails e b (F (view v ∷ [])) code place broken → Fails d a (F (map view vs)) code place broken
 Fails-more F j vs i v d e a b code place broken l is before here =
     subst (λ (zs : List RawItem). Fails d a zs code place broken) (sym (items_around F j vs i v l is))
     (Fails-front d a _ (F (map view (drop (i + 1) vs))) code place broken (Fails-behind d e a b (F (map view (take i vs))) (F (view v ∷ [])) code place broken before here))
 
 -- the items of no member
-pub Leads-begin : (F : List Data → List RawItem) (j : Joins F) (vs : List Value) (d : Draft) (a : ℕ) → Leads d a (F (map view (take 0 vs))) d a
-Leads-begin F j vs d a = subst (λ (zs : List RawItem). Leads d a zs d a) (sym j.none) (Leads-none d a)
+pub Leads-begin : (F : List Data → List RawItem) (j : Joins F) (vs : List Value) (d : Draft) (a : ℕ) → LeadsOn d a (F (map view (take 0 vs))) d a
+Leads-begin F j vs d a = subst (λ (zs : List RawItem). LeadsOn d a zs d a) (sym j.none) (Leads-none d a)
 
 -- the items of all members
-pub Leads-all : (F : List Data → List RawItem) (vs : List Value) (i : ℕ) (d e : Draft) (a b : ℕ) → length vs ≤ i → Leads d a (F (map view (take i vs))) e b → Leads d a (F (map view vs)) e b
-Leads-all F vs i d e a b l h = subst (λ (ws : List Value). Leads d a (F (map view ws)) e b) (take_all i vs l) h
+pub Leads-all : (F : List Data → List RawItem) (vs : List Value) (i : ℕ) (d e : Draft) (a b : ℕ) → length vs ≤ i → LeadsOn d a (F (map view (take i vs))) e b → LeadsOn d a (F (map view vs)) e b
+Leads-all F vs i d e a b l h = subst (λ (ws : List Value). LeadsOn d a (F (map view ws)) e b) (take_all i vs l) h

@@ -5,7 +5,7 @@ use Rattle.serde_json.specs.Data.{Data}
 use Rattle.serde_json.specs.Find.{get, as_array, as_object}
 use Rattle.serde_json.specs.View.{view, items_view, members_view}
 use Rattle.serde_json.specs.declared.value.Value.{Value}
-use Rattle.site_json.specs.Tree.{item_count, member_count, list_from, list_of, members_at, has_all, has_exactly}
+use Rattle.site_json.specs.Tree.{item_count, object_size, list_from, list_of, members_at, has_all, has_exactly}
 
 -- the members of an array, as they are seen
 pub list_from-items_view : (vs : List Value) → list_from (items_view vs) ≡ map view vs
@@ -18,7 +18,7 @@ item_count-items_view [] = refl
 item_count-items_view (v ∷ vs) = ap (λ n. n + 1) (item_count-items_view vs) ∙ add-one (length vs)
 
 -- an object has as many members as it holds
-pub member_count-members_view : (es : List (String Global × Value)) → member_count (members_view es) ≡ length es
+pub member_count-members_view : (es : List (String Global × Value)) → object_size (members_view es) ≡ length es
 member_count-members_view [] = refl
 member_count-members_view (e ∷ es) = ap (λ n. n + 1) (member_count-members_view es) ∙ add-one (length es)
 

@@ -10,7 +10,7 @@ use Rattle.serde_json.specs.declared.value.Value.{Value}
 use Rattle.cable_definitions.specs.Items.{Draft, RawItem, AnObstacle, IsGood, Adds}
 use Rattle.site_model.specs.declared.fault.SiteFault.{SiteFault}
 use Rattle.site_json.specs.Tree.{raw_obstacle, raw_corners}
-use Rattle.site_json.specs.Faults.{Leads}
+use Rattle.site_json.specs.Faults.{LeadsOn}
 use Rattle.site_json.proofs.Levels.{item_count-items_view}
 use Rattle.site_json.proofs.Leading.{Leads-one, Leads-append}
 
@@ -23,10 +23,10 @@ pub raw_obstacle-array : (d : Data) (vs : List Value) → Some (items_view vs) �
 raw_obstacle-array d vs is_array = ap raw_obstacle (sym is_array) ∙ ap (λ (n : ℕ). AnObstacle (Some (pos n)) ∷ raw_corners (items_view vs)) (item_count-items_view vs)
 
 -- further items behind a good one
-pub Leads-first : (d e f : Draft) (a : ℕ) (item : RawItem) (items : List RawItem) (r : Result ℕ SiteFault) → IsGood d item → Adds d item e → IfOk r (λ after. Leads e (a + 1) items f after) → IfOk r (λ after. Leads d a (item ∷ items) f after)
+pub Leads-first : (d e f : Draft) (a : ℕ) (item : RawItem) (items : List RawItem) (r : Result ℕ SiteFault) → IsGood d item → Adds d item e → IfOk r (λ after. LeadsOn e (a + 1) items f after) → IfOk r (λ after. LeadsOn d a (item ∷ items) f after)
 Leads-first d e f a item items (Ok b) good adds l = Leads-append d e f a (a + 1) b (item ∷ []) items (Leads-one d e a item good adds) l
 Leads-first d e f a item items (Err fault) good adds l = l
 
 -- the same items
-pub Leads-same : (d f : Draft) (a : ℕ) (items others : List RawItem) (r : Result ℕ SiteFault) → items ≡ others → IfOk r (λ after. Leads d a items f after) → IfOk r (λ after. Leads d a others f after)
-Leads-same d f a items others r e l = subst (λ (xs : List RawItem). IfOk r (λ after. Leads d a xs f after)) e l
+pub Leads-same : (d f : Draft) (a : ℕ) (items others : List RawItem) (r : Result ℕ SiteFault) → items ≡ others → IfOk r (λ after. LeadsOn d a items f after) → IfOk r (λ after. LeadsOn d a others f after)
+Leads-same d f a items others r e l = subst (λ (xs : List RawItem). IfOk r (λ after. LeadsOn d a xs f after)) e l

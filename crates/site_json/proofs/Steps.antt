@@ -15,10 +15,10 @@ use Rattle.cable_definitions.specs.Items.{Draft, RawItem, RawKind, RawRule, ATyp
 use Rattle.site_model.specs.Building.{type_item}
 use Rattle.site_model.proofs.Drafts.{IsDraft-adds}
 use Rattle.site_json.specs.Tree.{raw_type, point_with, raw_point, corner_of, raw_pair, item_count, has_exactly, whole, text, text_or_none, is_text, is_true}
-use Rattle.site_json.specs.Progress.{open_items, list_items, IsPlaced, TakesTypes, TakesUpTo, TakesCorners}
+use Rattle.site_json.specs.Progress.{open_items, list_items, IsDraftAt, TakesTypes, TakesUpTo, TakesCorners}
 
 -- few items have given a site that has no pair rules
-pub IsPlaced-few : (d : Draft) (placed : ℕ) → IsPlaced d placed → placed ≤ 1355 + length d.site.pairs
+pub IsPlaced-few : (d : Draft) (placed : ℕ) → IsDraftAt d placed → placed ≤ 1355 + length d.site.pairs
 IsPlaced-few d placed p = few d.missing (length d.corners) refl refl where
   few : (missing corners : ℕ) → d.missing ≡ missing → length d.corners ≡ corners → placed ≤ 1355 + length d.site.pairs
   few zero corners m c =

@@ -16,14 +16,14 @@ use Rattle.site_model.specs.Drafts.{item_of_version}
 use Rattle.site_model.specs.declared.fault.SiteFault.{SiteFault}
 use Rattle.site_model.proofs.Drafts.{IsDraft-begins, IsValid-draft}
 use Rattle.site_json.specs.Tree.{whole, mode_of, version_of, raw_types, some_types, raw_points, raw_obstacles, raw_pairs, members_at, raw_items}
-use Rattle.site_json.specs.Faults.{Leads, Fails, listed, Gives}
+use Rattle.site_json.specs.Faults.{LeadsOn, Fails, listed, GivesSite}
 use Rattle.site_json.specs.Progress.{TakesTypes, TakesUpTo}
 use Rattle.site_json.proofs.Codes.{IsGood-version, IsGood-mode, IsFirstCode-mode}
 use Rattle.site_json.proofs.Leading.{Leads-one, Leads-append, Fails-one, Fails-front, Fails-behind}
 use Rattle.site_json.proofs.Steps.{some_type, zero_read}
 
 -- further items behind good ones
-pub Leads-then : (d e f : Draft) (a b : ℕ) (xs ys : List RawItem) (r : Result ℕ SiteFault) → Leads d a xs e b → IfOk r (λ after. Leads e b ys f after) → IfOk r (λ after. Leads d a (xs ++ ys) f after)
+pub Leads-then : (d e f : Draft) (a b : ℕ) (xs ys : List RawItem) (r : Result ℕ SiteFault) → LeadsOn d a xs e b → IfOk r (λ after. LeadsOn e b ys f after) → IfOk r (λ after. LeadsOn d a (xs ++ ys) f after)
 Leads-then d e f a b xs ys (Ok c) l m = Leads-append d e f a b c xs ys l m
 Leads-then d e f a b xs ys (Err fault) l m = m
 
@@ -55,12 +55,12 @@ version_of-told v One e = ap version_of (told v One e)
 version_of-told v Two e = ap version_of (told v Two e)
 
 -- the item of the version
-pub Leads-version : (v : Option ℤ) (version : Version) → AVersion v ≡ item_of_version version → version_number version ≤ latest_version → Leads empty_draft 0 (AVersion v ∷ []) (versioned version) 1
+pub Leads-version : (v : Option ℤ) (version : Version) → AVersion v ≡ item_of_version version → version_number version ≤ latest_version → LeadsOn empty_draft 0 (AVersion v ∷ []) (versioned version) 1
 Leads-version v version e latest =
     Leads-one empty_draft (versioned version) 0 (AVersion v) (subst (λ (i : RawItem). IsGood empty_draft i) (sym e) (IsGood-version version latest)) (version, told v version e, refl)
 
 -- the items of the version and the mode
-pub Leads-head : (v : Option ℤ) (m : Option Mode) (version : Version) (mode : Mode) → AVersion v ≡ item_of_version version → version_number version ≤ latest_version → m ≡ Some mode → Leads empty_draft 0 (AVersion v ∷ AMode m ∷ []) (begun version mode) 2
+pub Leads-head : (v : Option ℤ) (m : Option Mode) (version : Version) (mode : Mode) → AVersion v ≡ item_of_version version → version_number version ≤ latest_version → m ≡ Some mode → LeadsOn empty_draft 0 (AVersion v ∷ AMode m ∷ []) (begun version mode) 2
 Leads-head v m version mode e latest is =
     Leads-append empty_draft (versioned version) (begun version mode) 0 1 2 (AVersion v ∷ []) (AMode m ∷ []) (Leads-version v version e latest)
     (Leads-one (versioned version) (begun version mode) 1 (AMode m) (subst (λ (n : Option Mode). IsGood (versioned version) (AMode n)) (sym is) (IsGood-mode (versioned version) mode refl)) (mode, is, refl))
@@ -99,7 +99,7 @@ Fails-lists d version mode code place broken e latest is fault =
 
 -- the end is refused
 pub Fails-end : (d : Data) (version : Version) (mode : Mode) (f : Draft) (after : ℕ) (code : SiteCode) (place : ℕ) (broken : Bool) → AVersion (whole (get (codes "site") d)) ≡ item_of_version version → version_number version ≤ latest_version → mode_of (get (codes "mode") d) ≡ Some mode
-    → Leads (begun version mode) 2 (listed version d) f after → Fails f after (TheEnd ∷ []) code place broken → Fails empty_draft 0 (raw_items d) code place broken
+    → LeadsOn (begun version mode) 2 (listed version d) f after → Fails f after (TheEnd ∷ []) code place broken → Fails empty_draft 0 (raw_items d) code place broken
 Fails-end d version mode f after code place broken e latest is leads fault =
     let v = whole (get (codes "site") d) in
     let m = mode_of (get (codes "mode") d) in
@@ -109,7 +109,7 @@ Fails-end d version mode f after code place broken e latest is leads fault =
 
 -- all items are good
 pub Gives-all : (d : Data) (version : Version) (mode : Mode) (f : Draft) (after : ℕ) (s : Site) → AVersion (whole (get (codes "site") d)) ≡ item_of_version version → version_number version ≤ latest_version → mode_of (get (codes "mode") d) ≡ Some mode
-    → Leads (begun version mode) 2 (listed version d) f after → TakesUpTo 5 f after → IsGood f TheEnd → s ≡ f.site → Gives (raw_items d) s
+    → LeadsOn (begun version mode) 2 (listed version d) f after → TakesUpTo 5 f after → IsGood f TheEnd → s ≡ f.site → GivesSite (raw_items d) s
 Gives-all d version mode f after s e latest is leads takes good same =
     let v = whole (get (codes "site") d) in
     let m = mode_of (get (codes "mode") d) in
@@ -144,13 +144,13 @@ Fails-types version d b code place broken fault =
     (Fails-front b 2 (types_said version d ++ points_said d) (obstacles_said d) code place broken (Fails-front b 2 (types_said version d) (points_said d) code place broken fault))
 
 -- the points are refused
-pub Fails-points : (version : Version) (d : Data) (b c : Draft) (after : ℕ) (code : SiteCode) (place : ℕ) (broken : Bool) → Leads b 2 (types_said version d) c after → Fails c after (points_said d) code place broken → Fails b 2 (listed version d) code place broken
+pub Fails-points : (version : Version) (d : Data) (b c : Draft) (after : ℕ) (code : SiteCode) (place : ℕ) (broken : Bool) → LeadsOn b 2 (types_said version d) c after → Fails c after (points_said d) code place broken → Fails b 2 (listed version d) code place broken
 Fails-points version d b c after code place broken leads fault =
     Fails-front b 2 (types_said version d ++ points_said d ++ obstacles_said d) (pairs_said d) code place broken
     (Fails-front b 2 (types_said version d ++ points_said d) (obstacles_said d) code place broken (Fails-behind b c 2 after (types_said version d) (points_said d) code place broken leads fault))
 
 -- the obstacles are refused
-pub Fails-obstacles : (version : Version) (d : Data) (b c : Draft) (after : ℕ) (code : SiteCode) (place : ℕ) (broken : Bool) → Leads b 2 (types_said version d ++ points_said d) c after → Fails c after (obstacles_said d) code place broken
+pub Fails-obstacles : (version : Version) (d : Data) (b c : Draft) (after : ℕ) (code : SiteCode) (place : ℕ) (broken : Bool) → LeadsOn b 2 (types_said version d ++ points_said d) c after → Fails c after (obstacles_said d) code place broken
     → Fails b 2 (listed version d) code place broken
 Fails-obstacles version d b c after code place broken leads fault =
     Fails-front b 2 (types_said version d ++ points_said d ++ obstacles_said d) (pairs_said d) code place broken

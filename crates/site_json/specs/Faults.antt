@@ -12,7 +12,7 @@ use Rattle.site_model.specs.declared.fault.SiteFault.TheVariants.{Refused, Memor
 use Rattle.site_json.specs.Tree.{members_at, some_types, raw_points, raw_obstacles, raw_pairs}
 
 -- the items are good and lead from the one site so far to the other; `before` and `after` count the items up to each
-pub record Leads (d : Draft) (before : ℕ) (items : List RawItem) (e : Draft) (after : ℕ) : Type 0 where
+pub record LeadsOn (d : Draft) (before : ℕ) (items : List RawItem) (e : Draft) (after : ℕ) : Type 0 where
   pub builds : Builds d items e
   pub counted : after ≡ before + length items
 
@@ -40,7 +40,7 @@ listed version d =
     ++ raw_pairs (members_at (codes "pairs") d)
 
 -- the items are good and give this valid site
-pub record Gives (items : List RawItem) (s : Site) : Type 0 where
+pub record GivesSite (items : List RawItem) (s : Site) : Type 0 where
   pub draft : Draft
   pub builds : Builds empty_draft items draft
   pub site_is : draft.site ≡ s

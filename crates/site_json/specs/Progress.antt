@@ -15,25 +15,25 @@ list_items d =
     + length d.site.pairs
 
 -- a site so far that this many items have given, with those of the version and the mode
-pub record IsPlaced (d : Draft) (placed : ℕ) : Type 0 where
+pub record IsDraftAt (d : Draft) (placed : ℕ) : Type 0 where
   pub draft : IsDraft d
   pub counted : placed ≡ 2 + list_items d
 
 -- types may come
 pub record TakesTypes (d : Draft) (placed : ℕ) : Type 0 where
-  pub is_placed : IsPlaced d placed
+  pub is_placed : IsDraftAt d placed
   pub stage : d.stage ≡ 2
   pub complete : d.missing ≡ 0
 
 -- what stands in the file up to this stage may come
 pub record TakesUpTo (stage : ℕ) (d : Draft) (placed : ℕ) : Type 0 where
-  pub is_placed : IsPlaced d placed
+  pub is_placed : IsDraftAt d placed
   pub settled : IsTrue (is_settled d)
   pub at_most : d.stage ≤ stage
 
 -- this many corners have to come
 pub record TakesCorners (missing : ℕ) (d : Draft) (placed : ℕ) : Type 0 where
-  pub is_placed : IsPlaced d placed
+  pub is_placed : IsDraftAt d placed
   pub stage : d.stage ≡ 4
   pub some_types : 1 ≤ length d.site.types
   pub missing_is : d.missing ≡ missing

@@ -7,7 +7,7 @@ ghost use Rattle.cable_definitions.specs.declared.site.SiteCode.{SiteCode};
 ghost use Rattle.cable_definitions.specs.Items.{empty_draft};
 ghost use Rattle.site_json.specs.Tree.{raw_items};
 ghost use Rattle.site_json.specs.Bytes.{IsJsonSite, IsJsonFault};
-ghost use Rattle.site_json.specs.Faults.{Fails, Gives};
+ghost use Rattle.site_json.specs.Faults.{Fails, GivesSite};
 
 mod items;
 pub mod laws;
@@ -61,7 +61,7 @@ pub fn read_json(alloc: Global, bytes: &[u8]) -> Result<Site, SiteFault>
 
 /// The site that the items of a tree give.
 fn site_of(alloc: Global, tree: &Value) -> Result<Site, SiteFault>
-    ensures site { IfOk result (λ s. Gives (raw_items (view tree.now)) s) }
+    ensures site { IfOk result (λ s. GivesSite (raw_items (view tree.now)) s) }
     ensures refused { (code : SiteCode) (place : ℕ) (broken : Bool) → result ≡ Err (SiteFault.Refused code place broken)
         → Fails empty_draft 0 (raw_items (view tree.now)) code place broken }
     ensures read { result ≢ Err SiteFault.Read }

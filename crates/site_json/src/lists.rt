@@ -6,7 +6,7 @@ ghost use Rattle.serde_json.specs.View.{view};
 ghost use Rattle.cable_definitions.specs.declared.site.SiteCode.{SiteCode};
 ghost use Rattle.site_json.specs.Tree.{raw_type, raw_point, corner_of, raw_obstacle, raw_pair, raw_types, raw_points, raw_corners, raw_obstacles, raw_pairs};
 ghost use Rattle.serde_json.specs.View.{items_view};
-ghost use Rattle.site_json.specs.Faults.{Leads, Fails, fault_at, listed};
+ghost use Rattle.site_json.specs.Faults.{LeadsOn, Fails, fault_at, listed};
 ghost use Rattle.site_json.specs.Progress.{TakesTypes, TakesUpTo, TakesCorners};
 
 use crate::items::{corner_of, pair_of, point_of, type_of};
@@ -44,7 +44,7 @@ fn add_type(
 ) -> Result<(), SiteFault>
     requires takes { TakesTypes builder.old before }
     requires version { builder.old.site.version ≡ version }
-    ensures leads { OnOk result (Leads builder.old before (raw_type version (view member.now) ∷ []) builder.new (before + 1)) }
+    ensures leads { OnOk result (LeadsOn builder.old before (raw_type version (view member.now) ∷ []) builder.new (before + 1)) }
     ensures takes { OnOk result (TakesTypes builder.new (before + 1)) }
     ensures version { OnOk result (builder.new.site.version ≡ version) }
     ensures grows { OnOk result (length builder.old.site.types < length builder.new.site.types) }
@@ -70,7 +70,7 @@ pub(crate) fn add_types(
 ) -> Result<u64, SiteFault>
     requires takes { TakesTypes builder.old before }
     requires version { builder.old.site.version ≡ version }
-    ensures leads { IfOk result (λ after. Leads builder.old before (raw_types version (map view types.now)) builder.new after) }
+    ensures leads { IfOk result (λ after. LeadsOn builder.old before (raw_types version (map view types.now)) builder.new after) }
     ensures takes { IfOk result (λ after. TakesTypes builder.new after) }
     ensures types { OnOk result (length types.now ≤ length builder.new.site.types) }
     ensures refused { (code : SiteCode) (place : ℕ) (broken : Bool) → result ≡ Err (SiteFault.Refused code place broken)
@@ -88,7 +88,7 @@ pub(crate) fn add_types(
 /// Adds the point that a member says.
 fn add_point(builder: &mut SiteBuilder, member: &Value, before: u64) -> Result<(), SiteFault>
     requires { TakesUpTo 3 builder.old before }
-    ensures leads { OnOk result (Leads builder.old before (raw_point (view member.now) ∷ []) builder.new (before + 1)) }
+    ensures leads { OnOk result (LeadsOn builder.old before (raw_point (view member.now) ∷ []) builder.new (before + 1)) }
     ensures takes { OnOk result (TakesUpTo 3 builder.new (before + 1)) }
     ensures refused { (code : SiteCode) (place : ℕ) (broken : Bool) → result ≡ Err (SiteFault.Refused code place broken)
         → Fails builder.old before (raw_point (view member.now) ∷ []) code place broken }
@@ -110,7 +110,7 @@ pub(crate) fn add_points(
     before: u64,
 ) -> Result<u64, SiteFault>
     requires { TakesUpTo 3 builder.old before }
-    ensures leads { IfOk result (λ after. Leads builder.old before (raw_points (map view points.now)) builder.new after) }
+    ensures leads { IfOk result (λ after. LeadsOn builder.old before (raw_points (map view points.now)) builder.new after) }
     ensures takes { IfOk result (λ after. TakesUpTo 3 builder.new after) }
     ensures refused { (code : SiteCode) (place : ℕ) (broken : Bool) → result ≡ Err (SiteFault.Refused code place broken)
         → Fails builder.old before (raw_points (map view points.now)) code place broken }
@@ -128,7 +128,7 @@ pub(crate) fn add_points(
 fn add_corner(builder: &mut SiteBuilder, member: &Value, before: u64) -> Result<(), SiteFault>
     requires takes { TakesCorners builder.old.missing builder.old before }
     requires missing { 1 ≤ builder.old.missing }
-    ensures leads { OnOk result (Leads builder.old before (corner_of (as_array (view member.now)) (view member.now) ∷ []) builder.new (before + 1)) }
+    ensures leads { OnOk result (LeadsOn builder.old before (corner_of (as_array (view member.now)) (view member.now) ∷ []) builder.new (before + 1)) }
     ensures takes { OnOk result (TakesCorners (builder.old.missing - 1) builder.new (before + 1)) }
     ensures refused { (code : SiteCode) (place : ℕ) (broken : Bool) → result ≡ Err (SiteFault.Refused code place broken)
         → Fails builder.old before (corner_of (as_array (view member.now)) (view member.now) ∷ []) code place broken }
@@ -146,7 +146,7 @@ fn add_corner(builder: &mut SiteBuilder, member: &Value, before: u64) -> Result<
 /// Adds the corners of an obstacle that lacks these.
 fn add_corners(builder: &mut SiteBuilder, corners: &[Value], before: u64) -> Result<u64, SiteFault>
     requires { TakesCorners (length corners.now) builder.old before }
-    ensures leads { IfOk result (λ after. Leads builder.old before (raw_corners (items_view corners.now)) builder.new after) }
+    ensures leads { IfOk result (λ after. LeadsOn builder.old before (raw_corners (items_view corners.now)) builder.new after) }
     ensures takes { IfOk result (λ after. TakesCorners 0 builder.new after) }
     ensures refused { (code : SiteCode) (place : ℕ) (broken : Bool) → result ≡ Err (SiteFault.Refused code place broken)
         → Fails builder.old before (raw_corners (items_view corners.now)) code place broken }
@@ -163,7 +163,7 @@ fn add_corners(builder: &mut SiteBuilder, corners: &[Value], before: u64) -> Res
 /// Adds the obstacle that a member says, with its corners.
 fn add_obstacle(builder: &mut SiteBuilder, member: &Value, before: u64) -> Result<u64, SiteFault>
     requires { TakesUpTo 4 builder.old before }
-    ensures leads { IfOk result (λ after. Leads builder.old before (raw_obstacle (as_array (view member.now))) builder.new after) }
+    ensures leads { IfOk result (λ after. LeadsOn builder.old before (raw_obstacle (as_array (view member.now))) builder.new after) }
     ensures takes { IfOk result (λ after. TakesUpTo 4 builder.new after) }
     ensures refused { (code : SiteCode) (place : ℕ) (broken : Bool) → result ≡ Err (SiteFault.Refused code place broken)
         → Fails builder.old before (raw_obstacle (as_array (view member.now))) code place broken }
@@ -185,7 +185,7 @@ pub(crate) fn add_obstacles(
     before: u64,
 ) -> Result<u64, SiteFault>
     requires { TakesUpTo 4 builder.old before }
-    ensures leads { IfOk result (λ after. Leads builder.old before (raw_obstacles (map view obstacles.now)) builder.new after) }
+    ensures leads { IfOk result (λ after. LeadsOn builder.old before (raw_obstacles (map view obstacles.now)) builder.new after) }
     ensures takes { IfOk result (λ after. TakesUpTo 4 builder.new after) }
     ensures refused { (code : SiteCode) (place : ℕ) (broken : Bool) → result ≡ Err (SiteFault.Refused code place broken)
         → Fails builder.old before (raw_obstacles (map view obstacles.now)) code place broken }
@@ -202,7 +202,7 @@ pub(crate) fn add_obstacles(
 fn add_pair(builder: &mut SiteBuilder, member: &Value, before: u64) -> Result<(), SiteFault>
     requires takes { TakesUpTo 5 builder.old before }
     requires room { before + 1 < 2 ^ 64 }
-    ensures leads { OnOk result (Leads builder.old before (raw_pair (view member.now) ∷ []) builder.new (before + 1)) }
+    ensures leads { OnOk result (LeadsOn builder.old before (raw_pair (view member.now) ∷ []) builder.new (before + 1)) }
     ensures takes { OnOk result (TakesUpTo 5 builder.new (before + 1)) }
     ensures grows { OnOk result (length builder.new.site.pairs ≡ length builder.old.site.pairs + 1) }
     ensures refused { (code : SiteCode) (place : ℕ) (broken : Bool) → result ≡ Err (SiteFault.Refused code place broken)
@@ -226,7 +226,7 @@ pub(crate) fn add_pairs(
 ) -> Result<u64, SiteFault>
     requires takes { TakesUpTo 4 builder.old before }
     requires room { length pairs.now < 2 ^ 63 }
-    ensures leads { IfOk result (λ after. Leads builder.old before (raw_pairs (map view pairs.now)) builder.new after) }
+    ensures leads { IfOk result (λ after. LeadsOn builder.old before (raw_pairs (map view pairs.now)) builder.new after) }
     ensures takes { IfOk result (λ after. TakesUpTo 5 builder.new after) }
     ensures room { IfOk result (λ after. after + 1 < 2 ^ 64) }
     ensures refused { (code : SiteCode) (place : ℕ) (broken : Bool) → result ≡ Err (SiteFault.Refused code place broken)
@@ -249,7 +249,7 @@ pub(crate) fn add_lists(
 ) -> Result<u64, SiteFault>
     requires takes { TakesTypes builder.old 2 }
     requires version { builder.old.site.version ≡ version }
-    ensures leads { IfOk result (λ after. Leads builder.old 2 (listed version (view tree.now)) builder.new after) }
+    ensures leads { IfOk result (λ after. LeadsOn builder.old 2 (listed version (view tree.now)) builder.new after) }
     ensures takes { IfOk result (λ after. TakesUpTo 5 builder.new after) }
     ensures room { IfOk result (λ after. after + 1 < 2 ^ 64) }
     ensures refused { (code : SiteCode) (place : ℕ) (broken : Bool) → result ≡ Err (SiteFault.Refused code place broken)

@@ -12,7 +12,7 @@ use Rattle.cable_definitions.specs.declared.site.Point.{Point}
 use Rattle.cable_definitions.specs.Site.{Site, IsValid}
 use Rattle.cable_definitions.specs.Arcs.{IsCandidate, Bears, IsCheapest, cost_of, kind_of, kind_from, power_of, power_of_kind, is_turbine, length_between, capacity_of, capacity_from, largest_capacity, charge_of}
 use Rattle.cable_definitions.specs.Budget.{IsLeastOut, LeastOutAt, AreLeastOut, IsNearest}
-use Rattle.site_model.specs.Best.{IsLeastOutBelow, IsLeastBelow, IsShare, lesser, most_cost}
+use Rattle.site_model.specs.Best.{IsLeastOutBelow, IsLeastBelow, IsShare, least_with, most_cost}
 use Rattle.site_model.proofs.Cheapest.{some_bears}
 use Rattle.site_model.proofs.Costs.{rate_small, metres_small, charge_small, type_at, cost_read, cost_from_read}
 
@@ -46,7 +46,7 @@ cheapest_under s p q load grade cost h e other b = by (h.least other b)
 
 -- one more arc
 pub one_more_arc : (s : Site) (p q grade cost : ℕ) (least : Option ℕ) → IsCandidate s p q → IsCheapest s p q (power_of s p) grade → cost ≡ cost_of s p q grade (power_of s p)
-    → IsLeastBelow s p q least → IsLeastOutBelow s p (q + 1) (lesser least cost)
+    → IsLeastBelow s p q least → IsLeastOutBelow s p (q + 1) (least_with least cost)
 one_more_arc s p q grade cost None c h e none = record {
   to = q;
   grade = grade;

@@ -37,9 +37,9 @@ IsLeastBelow s p bound None = (q : ℕ) → q < bound → ¬ (IsCandidate s p q)
 IsLeastBelow s p bound (Some cost) = IsLeastOutBelow s p bound cost
 
 -- the lesser of two costs, of which the first may be missing
-abbrev pub lesser : Option ℕ → ℕ → ℕ
-lesser None cost = cost
-lesser (Some least) cost = min least cost
+abbrev pub least_with : Option ℕ → ℕ → ℕ
+least_with None cost = cost
+least_with (Some least) cost = min least cost
 
 -- what point p adds to the sum of the least costs out of the turbines
 abbrev pub IsShare : Site → ℕ → ℕ → Kind → Type 0

@@ -5,7 +5,7 @@ ghost use Rattle.cable_definitions.specs.Plane.{IsOn, edges, edges_from, last_co
 ghost use Rattle.cable_definitions.specs.Site.{IsValid};
 ghost use Rattle.cable_definitions.specs.Arcs.{IsCandidate, charge_of, rule_of, cost_by, cost_of, Bears, IsCheapest, is_substation as is_substation_of, is_turbine as is_turbine_of, kind_of, power_of as power_of_point, power_of_kind};
 ghost use Rattle.cable_definitions.specs.Budget.{IsLeastOut, IsNearest};
-ghost use Rattle.site_model.specs.Best.{IsBestBelow, IsLeastBelow, IsShare, most_cost, lesser as lesser_of};
+ghost use Rattle.site_model.specs.Best.{IsBestBelow, IsLeastBelow, IsShare, most_cost, least_with as lesser_of};
 ghost use Rattle.site_model.specs.Passing.{PassesNone, IsClear};
 
 use crate::Site;

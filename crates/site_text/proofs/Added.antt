@@ -12,12 +12,12 @@ use Rattle.site_text.specs.declared.add.Progress.TheVariants.{Added, Ended}
 use Rattle.site_text.specs.declared.item.Item.{Item}
 use Rattle.site_text.specs.declared.item.Item.TheVariants.{Version as VersionItem, Mode as ModeItem, CableType, Point, Obstacle, Corner, Pair, End, Stray}
 use Rattle.site_text.specs.Item.{item_held, held_item}
-use Rattle.site_text.specs.Adding.{Answers, Takes, TextAdds, TextBreaks}
+use Rattle.site_text.specs.Adding.{Answers, TakesItem, TextAdds, TextBreaks}
 use Rattle.site_text.proofs.Changed.{held_good, held_first}
 
 -- an item that is taken as it is held is taken as it is
-pub held_takes : (d e : Draft) (raw : RawItem) → Takes d (held_item raw) e → Takes d raw e
-held_takes d e raw t = subst (λ (i : RawItem). Takes d i e) (held_good d raw t.good) t
+pub held_takes : (d e : Draft) (raw : RawItem) → TakesItem d (held_item raw) e → TakesItem d raw e
+held_takes d e raw t = subst (λ (i : RawItem). TakesItem d i e) (held_good d raw t.good) t
 
 -- an item that is not the end is held as none
 pub not_end : (i : Item) → i ≢ End → item_held i ≢ TheEnd
@@ -37,8 +37,8 @@ module _ (r : Result Progress BuildFault) (d e : Draft) (version : Version) (tex
 
   pub text_added : held ≢ TheEnd → r ≡ Ok Added → TextAdds d text e
   text_added before_end is =
-      let P : Result Progress BuildFault → Type 0 = λ q. OnOk q (Takes d held e) in
-      record { item = raw; item_of = here; takes = held_takes d e raw (subst (λ (i : RawItem). Takes d i e) held_is (subst P is answers.takes)); other = λ k. before_end (held_is ∙ ap held_item k) }
+      let P : Result Progress BuildFault → Type 0 = λ q. OnOk q (TakesItem d held e) in
+      record { item = raw; item_of = here; takes = held_takes d e raw (subst (λ (i : RawItem). TakesItem d i e) held_is (subst P is answers.takes)); other = λ k. before_end (held_is ∙ ap held_item k) }
 
   pub text_refused : (code : SiteCode) → r ≡ Err (Refused code) → TextBreaks d text code
   text_refused code is = record { item = raw; item_of = here; first = held_first d raw code (subst (λ (i : RawItem). IsFirstCode d i code) held_is (answers.refused code is)) }

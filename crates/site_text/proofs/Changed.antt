@@ -9,14 +9,14 @@ use Rattle.cable_definitions.specs.declared.site.Version.TheVariants.{One, Two}
 use Rattle.cable_definitions.specs.declared.site.SiteCode.{SiteCode}
 use Rattle.cable_definitions.specs.declared.site.SiteCode.TheVariants.{TooLong, Form, Shape, Range, BadName, SameName, SamePlace, UnknownName, SamePair, InObstacle, TooMany}
 use Rattle.cable_definitions.specs.Items.{ATurbine, ASubstation, ABend, ACharge, AClosing, RawItem, AVersion, AMode, AType, APoint, AnObstacle, ACorner, APair, TheEnd, Misshapen, Stray, Unended, Missing, Overlong, Draft, Field, within, fields_of, is_readable, may_stand, IsWithin, Breaks, code_number, IsFirstCode, IsGood, Adds, empty_draft}
-use Rattle.cable_text.specs.Number.{IsOutside}
+use Rattle.cable_text.specs.Number.{LiesOutside}
 use Rattle.site_model.specs.declared.fault.BuildFault.{BuildFault}
 use Rattle.site_model.specs.declared.fault.BuildFault.TheVariants.{Refused, Memory}
 use Rattle.site_model.specs.Building.{type_item}
 use Rattle.site_model.proofs.Codes.{IsFirstCode-at, KeepsBelow-shaped}
 use Rattle.site_model.proofs.Ranges.{passed}
 use Rattle.site_text.specs.declared.add.Progress.{Progress}
-use Rattle.site_text.specs.Item.{held, held_number, held_item, map_item}
+use Rattle.site_text.specs.Item.{held_in_128, held_number, held_item, map_item}
 use Rattle.site_text.specs.Adding.{told, told_loss, unspelled, answer_of, Answers}
 use Rattle.site_text.proofs.Held.{held_same, held_beyond}
 
@@ -364,9 +364,9 @@ held_value (Some z) least most room =
     by_lt_z z (negsuc (2 ^ 127 - 1)) (λ below. inr (out (inl below)))
     (λ not_below. by_lt_z (pos (2 ^ 127 - 1)) z (λ above. inr (out (inr above))) (λ not_above. inl (ap Some (held_same z not_below not_above))))
   where
-    out : IsOutside (negsuc (2 ^ 127 - 1)) (pos (2 ^ 127 - 1)) z → (¬ (IsWithin (within (held_number (Some z)) least most))) × (¬ (IsWithin (within (Some z) least most)))
+    out : LiesOutside (negsuc (2 ^ 127 - 1)) (pos (2 ^ 127 - 1)) z → (¬ (IsWithin (within (held_number (Some z)) least most))) × (¬ (IsWithin (within (Some z) least most)))
     out o = (
-      λ w. let k = (w (held z) refl).1 in let e = held_beyond z o in let low = room.most in absurd (omega (arith, ints)),
+      λ w. let k = (w (held_in_128 z) refl).1 in let e = held_beyond z o in let low = room.most in absurd (omega (arith, ints)),
       λ w. let k = w z refl in let low = room.least in let high = room.most in elim o [ inl a ↦ absurd (omega (arith, ints)) | inr a ↦ absurd (omega (arith, ints)) ],
     )
 

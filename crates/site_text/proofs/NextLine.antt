@@ -5,8 +5,8 @@ use Rattle.cable_definitions.specs.declared.site.SiteCode.{SiteCode}
 use Rattle.cable_definitions.specs.declared.site.SiteCode.TheVariants.{TooLong, Form, Shape, Range, BadName, SameName, SamePlace, UnknownName, SamePair, InObstacle, TooMany}
 use Rattle.cable_definitions.specs.Text.{Whole, LongLine, CutLine, NoLine, HasNoNewline}
 use Rattle.cable_definitions.specs.Items.{RawItem, AVersion, AMode, AType, APoint, AnObstacle, ACorner, APair, TheEnd, Misshapen, Stray, Unended, Missing, Overlong, Draft, Breaks, code_number, IsFirstCode, HasWords, IsItemOf, is_broken_line}
-use Rattle.cable_text.specs.Stream.{Gives}
-use Rattle.cable_text.specs.Lines.{LinesState, ahead, Finds, ReadsPiece, ReadsLine, next_number}
+use Rattle.cable_text.specs.Stream.{GivesFront}
+use Rattle.cable_text.specs.Lines.{LinesState, ahead, StandsNext, ReadsPiece, ReadsLine, next_number}
 use Rattle.cable_text.specs.declared.fault.Line.{Line}
 use Rattle.cable_text.specs.declared.fault.Line.TheVariants.{End}
 use Rattle.cable_text.specs.declared.fault.LineFault.{LineFault}
@@ -16,7 +16,7 @@ use Rattle.site_model.specs.declared.fault.BuildFault.TheVariants.{Refused as Re
 use Rattle.site_model.specs.declared.fault.SiteFault.{SiteFault}
 use Rattle.site_model.specs.declared.fault.SiteFault.TheVariants.{Refused}
 use Rattle.site_text.specs.Adding.{TextBreaks}
-use Rattle.site_text.specs.Reading.{site_fault, ReadsText, ReadsLineOf, FaultsNext, Faults}
+use Rattle.site_text.specs.Reading.{fault_of_line, ReadsText, ReadsItemLine, FaultsNext, Faults}
 use Rattle.site_text.proofs.Changed.{form_first}
 
 -- what holds where nothing is kept
@@ -51,15 +51,15 @@ long_first d = record { broken = refl; least = below }
     below TooMany l b = absurd (omega arith)
 
 -- the faults of lines that are not whole, of bytes that are told
-finds_missing : (d : Draft) (before after : Option (List ℕ)) → Finds before NoLine after → FaultsNext d before Form true
+finds_missing : (d : Draft) (before after : Option (List ℕ)) → StandsNext before NoLine after → FaultsNext d before Form true
 finds_missing d None after f = tt
 finds_missing d (Some bytes) after f = record { bad = Missing; rest = f.0; bad_at = record { piece = NoLine; next = f.1; item_is = refl }; first = form_first d Missing (λ e. cc) (λ t. cc); broken_is = refl }
 
-finds_cut : (d : Draft) (before after : Option (List ℕ)) → Finds before CutLine after → FaultsNext d before Form true
+finds_cut : (d : Draft) (before after : Option (List ℕ)) → StandsNext before CutLine after → FaultsNext d before Form true
 finds_cut d None after f = tt
 finds_cut d (Some bytes) after f = record { bad = Unended; rest = f.0; bad_at = record { piece = CutLine; next = f.1; item_is = refl }; first = form_first d Unended (λ e. cc) (λ t. cc); broken_is = refl }
 
-finds_long : (d : Draft) (before after : Option (List ℕ)) → Finds before LongLine after → FaultsNext d before TooLong true
+finds_long : (d : Draft) (before after : Option (List ℕ)) → StandsNext before LongLine after → FaultsNext d before TooLong true
 finds_long d None after f = tt
 finds_long d (Some bytes) after f = record { bad = Overlong; rest = f.0; bad_at = record { piece = LongLine; next = f.1; item_is = refl }; first = long_first d; broken_is = refl }
 
@@ -81,7 +81,7 @@ module _ (d : Draft) (old new : LinesState) (left_old left_new : Option (List �
 
 -- ---- a whole line
 -- the bytes give its text and a newline
-pub gives_text : (before after : Option (List ℕ)) (text : List ℕ) → Finds before (Whole text) after → Gives before after (text ++ 10 ∷ [])
+pub gives_text : (before after : Option (List ℕ)) (text : List ℕ) → StandsNext before (Whole text) after → GivesFront before after (text ++ 10 ∷ [])
 gives_text None after text f = f
 gives_text (Some bytes) after text f = (f.0, f.1.0 ∙ sym (append_assoc text (10 ∷ []) f.0), f.2)
 
@@ -105,7 +105,7 @@ item_whole : (version : Version) (text : List ℕ) (item : RawItem) → IsItemOf
 item_whole v text item h = elim h [ inl l ↦ said_whole v l.ws item l.says | inr s ↦ ap is_broken_line s.0 ]
 
 -- the fault of a whole line, in bytes that give it
-gives_fault : (d : Draft) (before after : Option (List ℕ)) (text : List ℕ) (item : RawItem) (code : SiteCode) → HasNoNewline text → length text ≤ 4096 → Gives before after (text ++ 10 ∷ []) → IsItemOf d.site.version (Whole text) item → IsFirstCode d item code → FaultsNext d before code false
+gives_fault : (d : Draft) (before after : Option (List ℕ)) (text : List ℕ) (item : RawItem) (code : SiteCode) → HasNoNewline text → length text ≤ 4096 → GivesFront before after (text ++ 10 ∷ []) → IsItemOf d.site.version (Whole text) item → IsFirstCode d item code → FaultsNext d before code false
 gives_fault d None after text item code plain short g of first = tt
 gives_fault d (Some bytes) after text item code plain short g of first = record {
   bad = item;
@@ -116,11 +116,11 @@ gives_fault d (Some bytes) after text item code plain short g of first = record 
 }
 
 -- a line that says an item which breaks a rule
-pub line_fault : (d : Draft) (before after : Option (List ℕ)) (item : RawItem) (code : SiteCode) (old new place : ℕ) → ReadsLineOf d.site.version item before after old new → IsFirstCode d item code → place ≡ next_number old → Faults d before old code place false
+pub line_fault : (d : Draft) (before after : Option (List ℕ)) (item : RawItem) (code : SiteCode) (old new place : ℕ) → ReadsItemLine d.site.version item before after old new → IsFirstCode d item code → place ≡ next_number old → Faults d before old code place false
 line_fault d before after item code old new place l first is = record { next = gives_fault d before after l.text item code l.plain l.short l.gives l.item_of first; place_is = is }
 
 -- the line of a text that says this item
-pub text_line : (version : Version) (item : RawItem) (before after : Option (List ℕ)) (old new : LinesState) (lines_old : ℕ) → lines_old ≡ old.lines → ReadsText before after old new → IsItemOf version (Whole new.text) item → ReadsLineOf version item before after lines_old new.lines
+pub text_line : (version : Version) (item : RawItem) (before after : Option (List ℕ)) (old new : LinesState) (lines_old : ℕ) → lines_old ≡ old.lines → ReadsText before after old new → IsItemOf version (Whole new.text) item → ReadsItemLine version item before after lines_old new.lines
 text_line version item before after old new lines_old same t of = record { text = new.text; plain = t.plain; short = t.short; gives = gives_text before after new.text t.finds; item_of = of; lines = t.lines ∙ ap next_number (sym same) }
 
 -- a text that breaks a rule
@@ -130,7 +130,7 @@ text_fault d before after old new text code place h e b p =
     line_fault d before after t.item code old.lines new.lines place (text_line d.site.version t.item before after old new old.lines refl h t.item_of) t.first (p ∙ h.number)
 
 -- what holds of a refusal by the builder holds of the fault that is made of it
-pub build_fault : {A : Type 0} (P : SiteCode → ℕ → Bool → Type 0) (fault : BuildFault) (n : ℕ) (f : SiteFault) → f ≡ site_fault fault n → ((c : SiteCode) → fault ≡ RefusedCall c → P c n false)
+pub build_fault : {A : Type 0} (P : SiteCode → ℕ → Bool → Type 0) (fault : BuildFault) (n : ℕ) (f : SiteFault) → f ≡ fault_of_line fault n → ((c : SiteCode) → fault ≡ RefusedCall c → P c n false)
     → (code : SiteCode) (place : ℕ) (broken : Bool) → ◌≡◌ {A = Result A SiteFault} (Err f) (Err (Refused code place broken)) → P code place broken
 build_fault P (RefusedCall c) n f is h code place broken e = fault_parts P f c code n place false broken is e (h c refl)
-build_fault P NoMemory n f is h code place broken e = absurd (let same : site_fault NoMemory n ≡ Refused code place broken = cc in cc)
+build_fault P NoMemory n f is h code place broken e = absurd (let same : fault_of_line NoMemory n ≡ Refused code place broken = cc in cc)

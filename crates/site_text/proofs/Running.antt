@@ -9,9 +9,9 @@ use Rattle.cable_definitions.specs.declared.site.SiteCode.{SiteCode}
 use Rattle.cable_definitions.specs.Site.{Site, IsValid}
 use Rattle.cable_definitions.specs.Text.{Whole, HasNoNewline, line_count, site_lines}
 use Rattle.cable_definitions.specs.Items.{Draft, RawItem, TheEnd, IsGood, Adds, IsFirstCode, IsItemAt, ReadsItems, IsLineFault, empty_draft}
-use Rattle.cable_text.specs.Stream.{Gives}
+use Rattle.cable_text.specs.Stream.{GivesFront}
 use Rattle.cable_text.specs.Lines.{next_number}
-use Rattle.site_text.specs.Reading.{counted, ReadsLineOf, Reads, IsNextFault, FaultsNext, Faults}
+use Rattle.site_text.specs.Reading.{lines_after, ReadsItemLine, ReadsItem, IsNextFault, FaultsNext, Faults}
 use Rattle.site_text.proofs.NextLine.{line_fault}
 use Rattle.site_text.proofs.SiteReading.{GoesOn, goes_on, begins, site_read}
 use Rattle.site_text.proofs.Counting.{lines_of, lines_more, lines_few}
@@ -21,7 +21,7 @@ abbrev pub lines_from : ℕ → ℕ → ℕ
 lines_from lines zero = lines
 lines_from lines (suc k) = next_number (lines_from lines k)
 
-lines_counted : (lines k : ℕ) → lines_from lines (suc k) ≡ counted lines (suc k)
+lines_counted : (lines k : ℕ) → lines_from lines (suc k) ≡ lines_after lines (suc k)
 lines_counted lines zero = omega arith
 lines_counted lines (suc k) = let h = lines_counted lines k in omega arith
 
@@ -32,19 +32,19 @@ lines_small lines (suc k) h = let r = lines_small lines k (omega arith) in omega
 -- the lines of these items
 pub record Run (d e : Draft) (before after : Option (List ℕ)) (old new : ℕ) (front : List ℕ) (items : List RawItem) : Type 0 where
   pub reads : (rest : List ℕ) → ReadsItems d (front ++ rest) items e rest
-  pub gives : Gives before after front
+  pub gives : GivesFront before after front
   pub newlines : line_count front ≡ length items
   pub lines : new ≡ lines_from old (length items)
 
 -- ---- runs one after another
-Gives-nil : (before : Option (List ℕ)) → Gives before before []
+Gives-nil : (before : Option (List ℕ)) → GivesFront before before []
 Gives-nil None = refl
 Gives-nil (Some bytes) = (bytes, refl, refl)
 
-Gives-then : (a b c : Option (List ℕ)) (x y : List ℕ) → Gives a b x → Gives b c y → Gives a c (x ++ y)
-Gives-then None b c x y g h = let P : Option (List ℕ) → Type 0 = λ o. Gives o c y in subst P g h
+Gives-then : (a b c : Option (List ℕ)) (x y : List ℕ) → GivesFront a b x → GivesFront b c y → GivesFront a c (x ++ y)
+Gives-then None b c x y g h = let P : Option (List ℕ) → Type 0 = λ o. GivesFront o c y in subst P g h
 Gives-then (Some bytes) b c x y g h =
-    let P : Option (List ℕ) → Type 0 = λ o. Gives o c y in
+    let P : Option (List ℕ) → Type 0 = λ o. GivesFront o c y in
     let k = subst P g.2 h in
     (k.0, g.1 ∙ ap (λ r. x ++ r) k.1 ∙ sym (append_assoc x y k.0), k.2)
 
@@ -77,7 +77,7 @@ no_line d before lines = record { reads = λ rest. (refl, refl); gives = Gives-n
 
 -- a run with one line more
 pub line_more : (d e f : Draft) (before mid after : Option (List ℕ)) (old now new : ℕ) (front : List ℕ) (items : List RawItem) (item : RawItem) → Run d e before mid old now front items
-    → (l : ReadsLineOf e.site.version item mid after now new) → IsGood e item → Adds e item f → Run d f before after old new (front ++ (l.text ++ 10 ∷ [])) (items ++ item ∷ [])
+    → (l : ReadsItemLine e.site.version item mid after now new) → IsGood e item → Adds e item f → Run d f before after old new (front ++ (l.text ++ 10 ∷ [])) (items ++ item ∷ [])
 line_more d e f before mid after old now new front items item run l good adds = record {
   reads = λ rest.
       let at : IsItemAt e.site.version ((l.text ++ 10 ∷ []) ++ rest) item rest = record { piece = Whole l.text; next = (append_assoc l.text (10 ∷ []) rest, l.plain, l.short); item_is = l.item_of } in
@@ -100,7 +100,7 @@ pub record HasRead (d : Draft) (before after : Option (List ℕ)) (old new : ℕ
 pub nothing_read : (before : Option (List ℕ)) (lines : ℕ) → HasRead empty_draft before before lines lines
 nothing_read before lines = record { front = []; items = []; run = no_line empty_draft before lines; goes_on = begins; count = refl }
 
-pub one_more : (d e : Draft) (before mid after : Option (List ℕ)) (old now new : ℕ) → HasRead d before mid old now → Reads d e mid after now new → HasRead e before after old new
+pub one_more : (d e : Draft) (before mid after : Option (List ℕ)) (old now new : ℕ) → HasRead d before mid old now → ReadsItem d e mid after now new → HasRead e before after old new
 one_more d e before mid after old now new h r =
     let l = r.line in
     let at : IsItemAt d.site.version (l.text ++ 10 ∷ []) r.item [] = record { piece = Whole l.text; next = (refl, l.plain, l.short); item_is = l.item_of } in
@@ -113,7 +113,7 @@ one_more d e before mid after old now new h r =
     }
 
 -- what is left to read is less after each item
-pub fewer_left : (d e : Draft) (before mid after : Option (List ℕ)) (old now new : ℕ) → HasRead d before mid old now → Reads d e mid after now new → 34000 - lines_of e < 34000 - lines_of d
+pub fewer_left : (d e : Draft) (before mid after : Option (List ℕ)) (old now new : ℕ) → HasRead d before mid old now → ReadsItem d e mid after now new → 34000 - lines_of e < 34000 - lines_of d
 fewer_left d e before mid after old now new h r =
     let k = one_more d e before mid after old now new h r in
     omega (arith, lines_more d e r.item h.goes_on.draft h.goes_on.tidy r.takes.good r.takes.adds r.other, lines_few e k.goes_on.draft)
@@ -121,11 +121,11 @@ fewer_left d e before mid after old now new h r =
 -- ---- the end
 pub record ReadsSite (s : Site) (before after : Option (List ℕ)) (old new : ℕ) : Type 0 where
   pub valid : IsValid s
-  pub text : Gives before after (site_lines s)
-  pub lines : new ≡ counted old (line_count (site_lines s))
+  pub text : GivesFront before after (site_lines s)
+  pub lines : new ≡ lines_after old (line_count (site_lines s))
   pub few : line_count (site_lines s) ≤ 34100
 
-pub site_ended : (d : Draft) (before mid after : Option (List ℕ)) (old now new : ℕ) → HasRead d before mid old now → ReadsLineOf d.site.version TheEnd mid after now new → IsGood d TheEnd → ReadsSite d.site before after old new
+pub site_ended : (d : Draft) (before mid after : Option (List ℕ)) (old now new : ℕ) → HasRead d before mid old now → ReadsItemLine d.site.version TheEnd mid after now new → IsGood d TheEnd → ReadsSite d.site before after old new
 site_ended d before mid after old now new h l good =
     let e : Draft = record d { stage = 6 } in
     let front = h.front ++ (l.text ++ 10 ∷ []) in
@@ -137,8 +137,8 @@ site_ended d before mid after old now new h l good =
     let count : line_count (site_lines d.site) ≡ suc (length h.items) = ap line_count (sym text) ∙ run.newlines ∙ size in
     record {
       valid = read.valid;
-      text = subst (Gives before after) text run.gives;
-      lines = run.lines ∙ ap (lines_from old) size ∙ lines_counted old (length h.items) ∙ ap (counted old) (sym count);
+      text = subst (GivesFront before after) text run.gives;
+      lines = run.lines ∙ ap (lines_from old) size ∙ lines_counted old (length h.items) ∙ ap (lines_after old) (sym count);
       few = omega (arith, count, h.count, lines_few d h.goes_on.draft);
     }
 
@@ -147,7 +147,7 @@ pub of_read : {X E : Type 0} (r : Result X E) {P Q : X → Type 0} → ((x : X) 
 of_read (Ok x) f h = f x h
 of_read (Err e) f h = tt
 
-pub finished : {E : Type 0} (r : Result Site E) (d f : Draft) (before mid after : Option (List ℕ)) (old now new : ℕ) → f ≡ d → HasRead d before mid old now → ReadsLineOf d.site.version TheEnd mid after now new → OnOk r (IsGood f TheEnd) → IfOk r (λ s. s ≡ f.site) → IfOk r (λ s. ReadsSite s before after old new)
+pub finished : {E : Type 0} (r : Result Site E) (d f : Draft) (before mid after : Option (List ℕ)) (old now new : ℕ) → f ≡ d → HasRead d before mid old now → ReadsItemLine d.site.version TheEnd mid after now new → OnOk r (IsGood f TheEnd) → IfOk r (λ s. s ≡ f.site) → IfOk r (λ s. ReadsSite s before after old new)
 finished (Ok s) d f before mid after old now new e h l good is =
     let ended = site_ended d before mid after old now new h l (subst (λ (k : Draft). IsGood k TheEnd) e good) in
     let same : s ≡ d.site = is ∙ ap (λ (k : Draft). k.site) e in
@@ -157,7 +157,7 @@ finished (Err e) d f before mid after old now new same h l good is = tt
 -- ---- the fault
 pub read_fault : (d : Draft) (before mid : Option (List ℕ)) (bytes : List ℕ) (old now : ℕ) (code : SiteCode) (place : ℕ) (broken : Bool) → before ≡ Some bytes → old + 34100 < 2 ^ 64 → HasRead d before mid old now → Faults d mid now code place broken → IsLineFault bytes (old + 1) code place broken
 read_fault d before mid bytes old now code place broken is small h f =
-    let P : Option (List ℕ) → Type 0 = λ o. Gives o mid h.front in
+    let P : Option (List ℕ) → Type 0 = λ o. GivesFront o mid h.front in
     let g = subst P is h.run.gives in
     let Q : Option (List ℕ) → Type 0 = λ o. FaultsNext d o code broken in
     let n : IsNextFault d g.0 code broken = subst Q g.2 f.next in
@@ -179,7 +179,7 @@ read_fault d before mid bytes old now code place broken is small h f =
     }
 
 -- the end that may not stand
-pub end_fault : (d f : Draft) (before mid after : Option (List ℕ)) (bytes : List ℕ) (old now new number : ℕ) (code : SiteCode) (place : ℕ) (broken : Bool) → before ≡ Some bytes → old + 34100 < 2 ^ 64 → f ≡ d → HasRead d before mid old now → ReadsLineOf d.site.version TheEnd mid after now new
+pub end_fault : (d f : Draft) (before mid after : Option (List ℕ)) (bytes : List ℕ) (old now new number : ℕ) (code : SiteCode) (place : ℕ) (broken : Bool) → before ≡ Some bytes → old + 34100 < 2 ^ 64 → f ≡ d → HasRead d before mid old now → ReadsItemLine d.site.version TheEnd mid after now new
     → number ≡ next_number now → IsFirstCode f TheEnd code × (place ≡ number) × (broken ≡ false) → IsLineFault bytes (old + 1) code place broken
 end_fault d f before mid after bytes old now new number code place broken is small e h l number_is t =
     let first = subst (λ (k : Draft). IsFirstCode k TheEnd code) e t.0 in

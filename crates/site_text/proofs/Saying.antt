@@ -13,7 +13,7 @@ use Rattle.site_text.specs.declared.item.Item.{Item}
 use Rattle.site_text.specs.declared.item.Item.TheVariants.{Version as VersionItem, Mode as ModeItem, CableType, Point, Obstacle, Corner, Pair, End, Stray}
 use Rattle.site_text.specs.Keyword.{keyword_text}
 use Rattle.site_text.specs.Words.{are_fields}
-use Rattle.site_text.specs.Item.{held_number, ReadsAs, AreFull, IsSaid}
+use Rattle.site_text.specs.Item.{held_number, ReadsAs, HaveNoEmpty, IsSaid}
 
 -- the keyword whose bytes have this sum
 abbrev keyword_from : ℕ → Keyword
@@ -59,10 +59,10 @@ record Begins (version : Version) (ws : List (List ℕ)) : Type 0 where
   keyword : Keyword
   ps : List (List ℕ)
   ws_are : ws ≡ keyword_text keyword ∷ ps
-  fields : AreFull ws → are_fields (field_count version keyword) ps ≡ true
+  fields : HaveNoEmpty ws → are_fields (field_count version keyword) ps ≡ true
 
-full_at : (ws vs : List (List ℕ)) → ws ≡ vs → AreFull ws → AreFull vs
-full_at ws vs e f = let P : List (List ℕ) → Type 0 = AreFull in subst P e f
+full_at : (ws vs : List (List ℕ)) → ws ≡ vs → HaveNoEmpty ws → HaveNoEmpty vs
+full_at ws vs e f = let P : List (List ℕ) → Type 0 = HaveNoEmpty in subst P e f
 
 begins : (version : Version) (ws : List (List ℕ)) (other : RawItem) → HasWords version ws other → Begins version ws
 begins version ws (AVersion v) h = record { keyword = Site; ps = h.0 ∷ []; ws_are = h.1; fields = full_at ws (codes "site" ∷ h.0 ∷ []) h.1 }

@@ -34,21 +34,21 @@ answer_of (Err (Refused code)) true = Err (Refused code)
 answer_of (Err (Refused code)) false = Err (Refused (unspelled code))
 
 -- the item is good after the items so far, and makes this of them
-pub record Takes (d : Draft) (item : RawItem) (e : Draft) : Type 0 where
+pub record TakesItem (d : Draft) (item : RawItem) (e : Draft) : Type 0 where
   pub good : IsGood d item
   pub adds : Adds d item e
 
 -- what is answered of an item: it is added where it is good, and else refused by the first code that it breaks
 pub record Answers (r : Result Progress BuildFault) (d : Draft) (item : RawItem) (e : Draft) : Type 0 where
   pub progress : IfOk r (λ p. p ≡ Added)
-  pub takes : OnOk r (Takes d item e)
+  pub takes : OnOk r (TakesItem d item e)
   pub refused : (code : SiteCode) → r ≡ Err (Refused code) → IsFirstCode d item code
 
 -- the text of a line is an item before the end that is good after the items so far, and makes this of them
 pub record TextAdds (d : Draft) (text : List ℕ) (e : Draft) : Type 0 where
   pub item : RawItem
   pub item_of : IsItemOf d.site.version (Whole text) item
-  pub takes : Takes d item e
+  pub takes : TakesItem d item e
   pub other : item ≢ TheEnd
 
 -- the text of a line is an item that breaks this code first

@@ -36,13 +36,13 @@ item_held End = TheEnd
 item_held Stray = AStray
 
 -- a number as 128 bits hold it: one beyond them is held as the greatest
-abbrev pub held : ℤ → ℤ
-held z = if int_le (negsuc (2 ^ 127 - 1)) z && int_le z (pos (2 ^ 127 - 1)) then z else pos (2 ^ 127 - 1)
+abbrev pub held_in_128 : ℤ → ℤ
+held_in_128 z = if int_le (negsuc (2 ^ 127 - 1)) z && int_le z (pos (2 ^ 127 - 1)) then z else pos (2 ^ 127 - 1)
 
 -- the same of what a word spells
 abbrev pub held_number : Option ℤ → Option ℤ
 held_number None = None
-held_number (Some z) = Some (held z)
+held_number (Some z) = Some (held_in_128 z)
 
 -- the kind of a point with each of its numbers changed so
 abbrev pub map_kind : (Option ℤ → Option ℤ) → RawKind → RawKind
@@ -86,14 +86,14 @@ abbrev pub NamesModeOf : List ℕ → Option Mode → Type 0
 NamesModeOf word mode = NamesMode word mode
 
 -- no word of these is empty
-abbrev pub AreFull : List (List ℕ) → Type 0
-AreFull ws = are_fields (length ws) ws ≡ true
+abbrev pub HaveNoEmpty : List (List ℕ) → Type 0
+HaveNoEmpty ws = are_fields (length ws) ws ≡ true
 
 -- the words say this item, as it is held, or it is stray and they say none
 pub record IsSaid (version : Version) (ws : List (List ℕ)) (item : Item) : Type 0 where
   pub raw : RawItem
   pub held_is : item_held item ≡ held_item raw
-  pub says : (AreFull ws × HasWords version ws raw) ⊎ ((raw ≡ AStray) × ((other : RawItem) → AreFull ws → HasWords version ws other → ⊥))
+  pub says : (HaveNoEmpty ws × HasWords version ws raw) ⊎ ((raw ≡ AStray) × ((other : RawItem) → HaveNoEmpty ws → HasWords version ws other → ⊥))
 
 -- the line's text says this item, as it is held
 pub record IsItemOfLine (version : Version) (text : List ℕ) (item : Item) : Type 0 where

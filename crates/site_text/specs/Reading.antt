@@ -10,13 +10,13 @@ use Rattle.site_model.specs.declared.fault.BuildFault.{BuildFault}
 use Rattle.site_model.specs.declared.fault.BuildFault.TheVariants.{Refused, Memory}
 use Rattle.site_model.specs.declared.fault.SiteFault.{SiteFault}
 use Rattle.site_model.specs.declared.fault.SiteFault.TheVariants.{Refused as RefusedSite, Memory as NoMemory}
-use Rattle.cable_text.specs.Stream.{Gives}
-use Rattle.cable_text.specs.Lines.{LinesState, Finds, next_number}
-use Rattle.site_text.specs.Adding.{Takes}
+use Rattle.cable_text.specs.Stream.{GivesFront}
+use Rattle.cable_text.specs.Lines.{LinesState, StandsNext, next_number}
+use Rattle.site_text.specs.Adding.{TakesItem}
 
 -- how many lines were read after this many more, up to the last value of a count
-abbrev pub counted : ℕ → ℕ → ℕ
-counted lines more = min (lines + more) (2 ^ 64 - 1)
+abbrev pub lines_after : ℕ → ℕ → ℕ
+lines_after lines more = min (lines + more) (2 ^ 64 - 1)
 
 -- more lines than a site has
 abbrev pub most_lines : ℕ
@@ -41,13 +41,13 @@ begun version mode = record {
 }
 
 -- the fault of a whole line that the builder refuses
-abbrev pub site_fault : BuildFault → ℕ → SiteFault
-site_fault (Refused code) place = RefusedSite code place false
-site_fault Memory place = NoMemory
+abbrev pub fault_of_line : BuildFault → ℕ → SiteFault
+fault_of_line (Refused code) place = RefusedSite code place false
+fault_of_line Memory place = NoMemory
 
 -- a whole line was read
 pub record ReadsText (before after : Option (List ℕ)) (old new : LinesState) : Type 0 where
-  pub finds : Finds before (Whole new.text) after
+  pub finds : StandsNext before (Whole new.text) after
   pub plain : HasNoNewline new.text
   pub short : length new.text ≤ 4096
   pub number : new.number ≡ next_number old.lines
@@ -55,19 +55,19 @@ pub record ReadsText (before after : Option (List ℕ)) (old new : LinesState) :
   pub kept : new.kept ≡ None
 
 -- a line was read that says this item
-pub record ReadsLineOf (version : Version) (item : RawItem) (before after : Option (List ℕ)) (old new : ℕ) : Type 0 where
+pub record ReadsItemLine (version : Version) (item : RawItem) (before after : Option (List ℕ)) (old new : ℕ) : Type 0 where
   pub text : List ℕ
   pub plain : HasNoNewline text
   pub short : length text ≤ 4096
-  pub gives : Gives before after (text ++ 10 ∷ [])
+  pub gives : GivesFront before after (text ++ 10 ∷ [])
   pub item_of : IsItemOf version (Whole text) item
   pub lines : new ≡ next_number old
 
 -- a line before the end was read that is good after the items so far, and makes this of them
-pub record Reads (d e : Draft) (before after : Option (List ℕ)) (old new : ℕ) : Type 0 where
+pub record ReadsItem (d e : Draft) (before after : Option (List ℕ)) (old new : ℕ) : Type 0 where
   pub item : RawItem
-  pub line : ReadsLineOf d.site.version item before after old new
-  pub takes : Takes d item e
+  pub line : ReadsItemLine d.site.version item before after old new
+  pub takes : TakesItem d item e
   pub other : item ≢ TheEnd
 
 -- the line that stands next in the bytes is the first fault, after the items so far

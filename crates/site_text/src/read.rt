@@ -5,10 +5,10 @@ ghost use Rattle.cable_definitions.specs.declared.site.SiteCode.{SiteCode as Any
 ghost use Rattle.cable_definitions.specs.Site.{IsValid, version_number, latest_version};
 ghost use Rattle.cable_definitions.specs.Text.{HasNoNewline, site_lines, line_count};
 ghost use Rattle.cable_definitions.specs.Items.{Draft, TheEnd, IsFirstCode, IsGood, IsLineFault, empty_draft};
-ghost use Rattle.cable_text.specs.Stream.{Gives, Rose};
+ghost use Rattle.cable_text.specs.Stream.{GivesFront, Rose};
 ghost use Rattle.cable_text.specs.Lines.{ahead, next_number};
 ghost use Rattle.site_text.specs.Adding.{TextAdds, TextBreaks};
-ghost use Rattle.site_text.specs.Reading.{counted, most_lines, versioned, site_fault, begun, ReadsText, ReadsLineOf, Reads, Faults};
+ghost use Rattle.site_text.specs.Reading.{lines_after, most_lines, versioned, fault_of_line, begun, ReadsText, ReadsItemLine, ReadsItem, Faults};
 
 use crate::add::{Progress, add_text};
 use crate::item::{Item, item_of};
@@ -16,7 +16,7 @@ use cable_text::{Line, LineFault, Lines, Source};
 use site_model::{BuildFault, Mode, Site, SiteBuilder, SiteCode, SiteFault, Version};
 use std::alloc::Global;
 
-/// Reads the lines of a site, up to and with the line `end site`, and no byte more, under the
+/// ReadsItem the lines of a site, up to and with the line `end site`, and no byte more, under the
 /// condition that `lines` keeps no fault. A site has at most 34,100 lines.
 ///
 /// # Errors
@@ -32,9 +32,9 @@ pub fn read_site<S: Source>(
 ) -> Result<Site, SiteFault>
     requires { lines.old.kept ≡ None }
     ensures valid { IfOk result (λ s. IsValid s) }
-    ensures text { IfOk result (λ s. Gives (ahead lines.old.pending (S.left src.old)) (ahead lines.new.pending (S.left src.new)) (site_lines s)) }
+    ensures text { IfOk result (λ s. GivesFront (ahead lines.old.pending (S.left src.old)) (ahead lines.new.pending (S.left src.new)) (site_lines s)) }
     ensures kept { OnOk result (lines.new.kept ≡ None) }
-    ensures lines { IfOk result (λ s. lines.new.lines ≡ counted lines.old.lines (line_count (site_lines s))) }
+    ensures lines { IfOk result (λ s. lines.new.lines ≡ lines_after lines.old.lines (line_count (site_lines s))) }
     ensures few { IfOk result (λ s. line_count (site_lines s) ≤ most_lines) }
     ensures refused { (bytes : List ℕ) (code : AnyCode) (place : ℕ) (broken : Bool) → (ahead lines.old.pending (S.left src.old)) ≡ Some bytes → lines.old.lines + most_lines < 2 ^ 64
         → result ≡ Err (SiteFault.Refused code place broken) → IsLineFault bytes (lines.old.lines + 1) code place broken }
@@ -52,7 +52,7 @@ pub fn read_site<S: Source>(
     }
 }
 
-// Reads the next line, so that it is the text of `lines`.
+// ReadsItem the next line, so that it is the text of `lines`.
 fn next_text<S: Source>(lines: &mut Lines, src: &mut S) -> Result<(), SiteFault>
     requires { lines.old.kept ≡ None }
     ensures reads { OnOk result (ReadsText (ahead lines.old.pending (S.left src.old)) (ahead lines.new.pending (S.left src.new)) lines.old lines.new) }
@@ -94,7 +94,7 @@ fn refused(code: SiteCode, place: u64) -> SiteFault
 
 // The fault of a whole line that the builder refuses.
 fn fault_of(fault: BuildFault, place: u64) -> SiteFault
-    ensures { result ≡ site_fault fault place }
+    ensures { result ≡ fault_of_line fault place }
 {
     match fault {
         BuildFault::Refused(code) => refused(code, place),
@@ -102,11 +102,11 @@ fn fault_of(fault: BuildFault, place: u64) -> SiteFault
     }
 }
 
-// Reads the line of the version.
+// ReadsItem the line of the version.
 fn read_version<S: Source>(lines: &mut Lines, src: &mut S) -> Result<Version, SiteFault>
     requires { lines.old.kept ≡ None }
     ensures version { IfOk result (λ version. version_number version ≤ latest_version) }
-    ensures reads { IfOk result (λ version. Reads empty_draft (versioned version) (ahead lines.old.pending (S.left src.old)) (ahead lines.new.pending (S.left src.new)) lines.old.lines lines.new.lines) }
+    ensures reads { IfOk result (λ version. ReadsItem empty_draft (versioned version) (ahead lines.old.pending (S.left src.old)) (ahead lines.new.pending (S.left src.new)) lines.old.lines lines.new.lines) }
     ensures kept { OnOk result (lines.new.kept ≡ None) }
     ensures refused { (code : AnyCode) (place : ℕ) (broken : Bool) → result ≡ Err (SiteFault.Refused code place broken) → Faults empty_draft (ahead lines.old.pending (S.left src.old)) lines.old.lines code place broken }
     ensures read { result ≡ Err SiteFault.Read → Rose (S.faults src.old) (S.faults src.new) }
@@ -139,10 +139,10 @@ fn version_of(text: &[u8]) -> Result<Version, SiteCode>
     }
 }
 
-// Reads the line of the mode.
+// ReadsItem the line of the mode.
 fn read_mode<S: Source>(version: Version, lines: &mut Lines, src: &mut S) -> Result<Mode, SiteFault>
     requires { lines.old.kept ≡ None }
-    ensures reads { IfOk result (λ mode. Reads (versioned version) (begun version mode) (ahead lines.old.pending (S.left src.old)) (ahead lines.new.pending (S.left src.new)) lines.old.lines lines.new.lines) }
+    ensures reads { IfOk result (λ mode. ReadsItem (versioned version) (begun version mode) (ahead lines.old.pending (S.left src.old)) (ahead lines.new.pending (S.left src.new)) lines.old.lines lines.new.lines) }
     ensures kept { OnOk result (lines.new.kept ≡ None) }
     ensures refused { (code : AnyCode) (place : ℕ) (broken : Bool) → result ≡ Err (SiteFault.Refused code place broken) → Faults (versioned version) (ahead lines.old.pending (S.left src.old)) lines.old.lines code place broken }
     ensures read { result ≡ Err SiteFault.Read → Rose (S.faults src.old) (S.faults src.new) }
@@ -180,7 +180,7 @@ fn begin(alloc: Global, version: Version, mode: Mode) -> Result<SiteBuilder, Sit
     }
 }
 
-// Reads a line behind the mode and gives the builder what it says.
+// ReadsItem a line behind the mode and gives the builder what it says.
 fn read_item<S: Source>(
     builder: &mut SiteBuilder,
     version: Version,
@@ -190,8 +190,8 @@ fn read_item<S: Source>(
     requires kept { lines.old.kept ≡ None }
     requires version { version ≡ builder.old.site.version }
     requires begun { 2 ≤ builder.old.stage }
-    ensures added { result ≡ Ok Progress.Added → Reads builder.old builder.new (ahead lines.old.pending (S.left src.old)) (ahead lines.new.pending (S.left src.new)) lines.old.lines lines.new.lines }
-    ensures ended { result ≡ Ok Progress.Ended → ReadsLineOf version TheEnd (ahead lines.old.pending (S.left src.old)) (ahead lines.new.pending (S.left src.new)) lines.old.lines lines.new.lines }
+    ensures added { result ≡ Ok Progress.Added → ReadsItem builder.old builder.new (ahead lines.old.pending (S.left src.old)) (ahead lines.new.pending (S.left src.new)) lines.old.lines lines.new.lines }
+    ensures ended { result ≡ Ok Progress.Ended → ReadsItemLine version TheEnd (ahead lines.old.pending (S.left src.old)) (ahead lines.new.pending (S.left src.new)) lines.old.lines lines.new.lines }
     ensures unchanged { result ≡ Ok Progress.Ended → builder.new ≡ builder.old }
     ensures number { result ≡ Ok Progress.Ended → lines.new.number ≡ next_number lines.old.lines }
     ensures kept { OnOk result (lines.new.kept ≡ None) }

@@ -17,7 +17,7 @@ use Rattle.layout_laws.proofs.Walking.{Starts-from_out}
 use Rattle.layout_laws.proofs.Typing.{all-at}
 use Rattle.layout_laws.proofs.Nearest.{out-from_Starts}
 use Rattle.layout_laws.proofs.Straightest.{StartsDiffer-ascending, straight-at}
-use Rattle.start_layout.specs.Straight.{IsWayIn, Beats, IsLeastTo, IsBestTo, IsLeastBelow, IsBestBelow, AreStraightBelow}
+use Rattle.start_layout.specs.Straight.{IsWayIn, Beats, IsLeastTo, IsBestTo, IsLeastWayBelow, IsBestWayBelow, AreStraightBelow}
 
 -- a listed arc is a candidate
 pub candidate_listed : (s : Site) (arcs : List Arc) (p q n : ℕ) → AreArcs s arcs → IsNumberOf arcs p q n → IsCandidate s p q
@@ -53,7 +53,7 @@ first_none s p n none there q grade l w = elim (cases_lt q n) [
   | inr k ↦ (let e : q ≡ n = omega arith in there grade (subst (λ (x : ℕ). IsWayIn s p x grade) e w))
 ]
 
-first_some : (s : Site) (p n : ℕ) (c : Cable) (price : ℕ) → ((q grade : ℕ) → q < n → ¬ (IsWayIn s p q grade)) → IsLeastTo s p n c price → IsLeastBelow s p (n + 1) c price
+first_some : (s : Site) (p n : ℕ) (c : Cable) (price : ℕ) → ((q grade : ℕ) → q < n → ¬ (IsWayIn s p q grade)) → IsLeastTo s p n c price → IsLeastWayBelow s p (n + 1) c price
 first_some s p n c price none t = record {
   priced = t.priced;
   below = (let e : c.to ≡ n = t.to in omega arith);
@@ -64,12 +64,12 @@ first_some s p n c price none t = record {
   ];
 }
 
-pub best_first : (s : Site) (p n : ℕ) (other : Option (Cable × ℕ)) → ((q grade : ℕ) → q < n → ¬ (IsWayIn s p q grade)) → IsBestTo s p n other → IsBestBelow s p (n + 1) other
+pub best_first : (s : Site) (p n : ℕ) (other : Option (Cable × ℕ)) → ((q grade : ℕ) → q < n → ¬ (IsWayIn s p q grade)) → IsBestTo s p n other → IsBestWayBelow s p (n + 1) other
 best_first s p n None none t = first_none s p n none t
 best_first s p n (Some (c, price)) none t = first_some s p n c price none t
 
 -- no way there
-pub best_kept : (s : Site) (p n : ℕ) (c : Cable) (price : ℕ) → IsLeastBelow s p n c price → ((grade : ℕ) → ¬ (IsWayIn s p n grade)) → IsLeastBelow s p (n + 1) c price
+pub best_kept : (s : Site) (p n : ℕ) (c : Cable) (price : ℕ) → IsLeastWayBelow s p n c price → ((grade : ℕ) → ¬ (IsWayIn s p n grade)) → IsLeastWayBelow s p (n + 1) c price
 best_kept s p n c price b none = record {
   priced = b.priced;
   below = (let l : c.to < n = b.below in omega arith);
@@ -87,7 +87,7 @@ no_cheaper a b x t n g h l k (inr m) = elim (cases_lt a x) [
   | inr y ↦ (let f : b ≡ x = m.0 in inr (omega arith, inl k))
 ]
 
-pub best_before : (s : Site) (p n : ℕ) (c d : Cable) (price cost : ℕ) → IsLeastBelow s p n c price → IsLeastTo s p n d cost → price ≤ cost → IsLeastBelow s p (n + 1) c price
+pub best_before : (s : Site) (p n : ℕ) (c d : Cable) (price cost : ℕ) → IsLeastWayBelow s p n c price → IsLeastTo s p n d cost → price ≤ cost → IsLeastWayBelow s p (n + 1) c price
 best_before s p n c d price cost b t le = record {
   priced = b.priced;
   below = (let l : c.to < n = b.below in omega arith);
@@ -104,7 +104,7 @@ cheaper : (a b x : ℕ) {X Y : Type 0} → b < a → (a < x) ⊎ ((a ≡ x) × X
 cheaper a b x l (inl m) = inl (omega arith)
 cheaper a b x l (inr m) = let e : a ≡ x = m.0 in inl (omega arith)
 
-pub best_after : (s : Site) (p n : ℕ) (c d : Cable) (price cost : ℕ) → IsLeastBelow s p n c price → IsLeastTo s p n d cost → cost < price → IsLeastBelow s p (n + 1) d cost
+pub best_after : (s : Site) (p n : ℕ) (c d : Cable) (price cost : ℕ) → IsLeastWayBelow s p n c price → IsLeastTo s p n d cost → cost < price → IsLeastWayBelow s p (n + 1) d cost
 best_after s p n c d price cost b t less = record {
   priced = t.priced;
   below = (let e : d.to ≡ n = t.to in omega arith);
@@ -117,10 +117,10 @@ best_after s p n c d price cost b t less = record {
 
 -- ---- the straight layout
 -- the cheapest of all is the straight cable
-pub straight_best : (s : Site) (p : ℕ) (c : Cable) (price : ℕ) → IsLeastBelow s p (length s.points) c price → IsStraightCable s c
-straight_best s p c price b = by (subst (λ (x : ℕ). IsLeastBelow s x (length s.points) c price) (sym b.priced.from) b)
+pub straight_best : (s : Site) (p : ℕ) (c : Cable) (price : ℕ) → IsLeastWayBelow s p (length s.points) c price → IsStraightCable s c
+straight_best s p c price b = by (subst (λ (x : ℕ). IsLeastWayBelow s x (length s.points) c price) (sym b.priced.from) b)
   where
-    by : IsLeastBelow s c.from (length s.points) c price → IsStraightCable s c
+    by : IsLeastWayBelow s c.from (length s.points) c price → IsStraightCable s c
     by b = record {
       candidate = b.priced.way.candidate;
       to_substation = b.priced.way.to_substation;

@@ -18,6 +18,6 @@ IsStart s (Found layout price) = (IsLegal s layout) × (cost s layout ≡ price)
 IsStart s (Stuck part turbine) = IsBlocked s part turbine
 
 -- a layout of at most this cost was found
-abbrev pub IsWithin : ℕ → Start → Type 0
-IsWithin most (Found layout price) = price ≤ most
-IsWithin most (Stuck part turbine) = ⊥
+abbrev pub IsFoundWithin : ℕ → Start → Type 0
+IsFoundWithin most (Found layout price) = price ≤ most
+IsFoundWithin most (Stuck part turbine) = ⊥

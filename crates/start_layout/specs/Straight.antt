@@ -34,14 +34,14 @@ IsBestTo s p q None = (grade : ℕ) → ¬ (IsWayIn s p q grade)
 IsBestTo s p q (Some (c, price)) = IsLeastTo s p q c price
 
 -- the cheapest cable from p to a point below n, or none where there is none
-pub record IsLeastBelow (s : Site) (p n : ℕ) (c : Cable) (price : ℕ) : Type 0 where
+pub record IsLeastWayBelow (s : Site) (p n : ℕ) (c : Cable) (price : ℕ) : Type 0 where
   pub priced : IsPriced s p c price
   pub below : c.to < n
   pub least : (q grade : ℕ) → q < n → IsWayIn s p q grade → Beats s p c price q grade
 
-abbrev pub IsBestBelow : Site → ℕ → ℕ → Option (Cable × ℕ) → Type 0
-IsBestBelow s p n None = (q grade : ℕ) → q < n → ¬ (IsWayIn s p q grade)
-IsBestBelow s p n (Some (c, price)) = IsLeastBelow s p n c price
+abbrev pub IsBestWayBelow : Site → ℕ → ℕ → Option (Cable × ℕ) → Type 0
+IsBestWayBelow s p n None = (q grade : ℕ) → q < n → ¬ (IsWayIn s p q grade)
+IsBestWayBelow s p n (Some (c, price)) = IsLeastWayBelow s p n c price
 
 -- straight cables out of the turbines below n, in order of start
 pub record AreStraightBelow (s : Site) (n : ℕ) (cables : List Cable) : Type 0 where

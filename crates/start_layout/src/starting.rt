@@ -5,7 +5,7 @@ ghost use Rattle.cable_definitions.specs.declared.cable.Cable.{Cable as ACable};
 ghost use Rattle.cable_definitions.specs.Arcs.{AreArcs};
 ghost use Rattle.cable_definitions.specs.Layout.{IsLegal, cost as cost_of_all};
 ghost use Rattle.cable_definitions.specs.Part.{IsStraight, IsBlocked};
-ghost use Rattle.start_layout.specs.Starting.{AllBlocked, IsStart, IsWithin};
+ghost use Rattle.start_layout.specs.Starting.{AllBlocked, IsStart, IsFoundWithin};
 
 use crate::growing::{all_choices, join_all, join_by_saving};
 use crate::straight::straight_layout;
@@ -110,7 +110,7 @@ fn start_of(site: &Site, part: PartialLayout) -> Start
 fn cheaper(site: &Site, grown: Start, straight: Layout) -> Start
     requires { IsStart site.now grown }
     ensures start { IsStart site.now result }
-    ensures within { IsLegal site.now straight → IsWithin (cost_of_all site.now straight) result }
+    ensures within { IsLegal site.now straight → IsFoundWithin (cost_of_all site.now straight) result }
 {
     match judge(site, &straight) {
         Verdict::Broken(rule, a, b) => grown,
@@ -120,7 +120,7 @@ fn cheaper(site: &Site, grown: Start, straight: Layout) -> Start
 
 /// What was grown, or the straight layout where that costs less.
 fn lesser(grown: Start, straight: Layout, cost: u64) -> Start
-    ensures within { IsWithin cost result }
+    ensures within { IsFoundWithin cost result }
     ensures either { (result ≡ grown) ⊎ (result ≡ Start.Found straight cost) }
 {
     match grown {

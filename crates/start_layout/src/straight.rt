@@ -4,7 +4,7 @@ ghost use Rattle.std.specs.Prelude.{◌≡◌, ℕ, ◌+◌, ◌<◌, ◌↔◌,
 ghost use Rattle.cable_definitions.specs.declared.cable.Cable.{Cable as ACable};
 ghost use Rattle.cable_definitions.specs.Arcs.{AreArcs, IsCandidate, kind_of, is_turbine as is_turbine_of, is_substation as is_substation_of, power_of};
 ghost use Rattle.cable_definitions.specs.Part.{IsStraight, IsStraightCable};
-ghost use Rattle.start_layout.specs.Straight.{IsWayIn, IsBestTo, IsBestBelow, AreStraightBelow};
+ghost use Rattle.start_layout.specs.Straight.{IsWayIn, IsBestTo, IsBestWayBelow, AreStraightBelow};
 
 use candidate_cables::Arcs;
 use layout_meaning::{Cable, Layout};
@@ -87,9 +87,9 @@ fn cheaper_cable(
     best: Option<(Cable, u64)>,
     other: Option<(Cable, u64)>,
 ) -> Option<(Cable, u64)>
-    requires best { IsBestBelow site.now from to best }
+    requires best { IsBestWayBelow site.now from to best }
     requires other { IsBestTo site.now from to other }
-    ensures { IsBestBelow site.now from (to + 1) result }
+    ensures { IsBestWayBelow site.now from (to + 1) result }
 {
     match best {
         None => other,
@@ -111,7 +111,7 @@ fn cheaper_cable(
 pub(crate) fn straight_cable(site: &Site, arcs: &Arcs, from: u32) -> Option<(Cable, u64)>
     requires arcs { AreArcs site.now arcs.now }
     requires from { from < length site.now.points }
-    ensures { IsBestBelow site.now from (length site.now.points) result }
+    ensures { IsBestWayBelow site.now from (length site.now.points) result }
 {
     let mut best = None;
     for to in 0..site.points().len() as u32 {

@@ -24,7 +24,7 @@ use Rattle.layout_meaning.proofs.Costing.{cost_small}
 use Rattle.branch_tree.specs.State.{nodes_after}
 use Rattle.proof_laws.proofs.Boxes.{set_either, append_either}
 use Rattle.proof_laws.proofs.Costs.{cost-ceiling}
-use Rattle.tree_search.specs.Chosen.{IsChosen}
+use Rattle.tree_search.specs.Chosen.{IsActFor}
 use Rattle.tree_search.specs.Progress.{AreCapped}
 
 -- ---- leaves
@@ -69,7 +69,7 @@ capped-root s arcs (suc (suc k)) x f leaf = absurd (cc)
 
 -- an act leaves no such bound above the ceiling
 pub capped-after : (s : Site) (arcs : List Arc) (rows : List Row) (marks : List Mark) (nodes : List Node) (v : ℕ) (node : Node) (act : Act) (bound after : ℕ) (known : Option ℕ) → AreArcs s arcs
-    → node_of nodes v ≡ Some node → AreCapped s arcs nodes → IsChosen s arcs rows marks known bound act after → AreCapped s arcs (nodes_after nodes v node act after)
+    → node_of nodes v ≡ Some node → AreCapped s arcs nodes → IsActFor s arcs rows marks known bound act after → AreCapped s arcs (nodes_after nodes v node act after)
 capped-after s arcs rows marks nodes v node (Split a) bound after known are e capped chosen =
     capped-made s arcs (slice_set nodes (v - 1) (worked node after WasSplit)) v after a
     (capped-set s arcs nodes v node (worked node after WasSplit) e capped (λ leaf. absurd (cc)))

@@ -20,7 +20,7 @@ use Rattle.cable_definitions.specs.Arcs.{AreArcs}
 use Rattle.cable_definitions.specs.Layout.{cost}
 use Rattle.cable_definitions.specs.Row.{Row}
 use Rattle.proof_laws.proofs.Costs.{cost-ceiling}
-use Rattle.tree_search.specs.Chosen.{IsAlive, IsChosen}
+use Rattle.tree_search.specs.Chosen.{IsAlive, IsActFor}
 use Rattle.tree_search.proofs.Ceilings.{ceiling_small}
 use Rattle.cable_definitions.specs.Tree.{Node, marks_of, mark_in, IsDead, IsFull}
 
@@ -40,10 +40,10 @@ small-passed parent bound h k small o =
     subst (λ (z : ℤ). z <ℤ pos (2 ^ 100)) (sym (passed bound o less)) less
 
 -- an arc that is split is one of the arcs
-pub split-within : (s : Site) (arcs : List Arc) (rows : List Row) (marks : List Mark) (known : Option ℕ) (bound after n : ℕ) (act : Act) → IsChosen s arcs rows marks known bound act after → length marks ≡ n
+pub split-within : (s : Site) (arcs : List Arc) (rows : List Row) (marks : List Mark) (known : Option ℕ) (bound after n : ℕ) (act : Act) → IsActFor s arcs rows marks known bound act after → length marks ≡ n
     → (a : ℕ) → act ≡ Split a → a < n
 split-within s arcs rows marks known bound after n act chosen l a e =
-    let split : IsChosen s arcs rows marks known bound (Split a) after = subst (λ (b : Act). IsChosen s arcs rows marks known bound b after) e chosen in
+    let split : IsActFor s arcs rows marks known bound (Split a) after = subst (λ (b : Act). IsActFor s arcs rows marks known bound b after) e chosen in
     let within = slice_get_within marks a Free split.0 in
     omega (arith, within, l)
 
@@ -59,7 +59,7 @@ passed_small z l h = passed z l (below z l h)
 pub full_chosen : (s : Site) (arcs : List Arc) (rows : List Row) (marks : List Mark) (known : Option ℕ) (bound passed_cost : ℤ) (total : ℕ) (cables : List Cable) → IsValid s → AreArcs s arcs
     → pos 0 ≤ℤ bound → bound <ℤ pos (2 ^ 100) → IsFull s arcs marks cables → total ≡ cost s cables → passed_cost ≡ pos total
     → ((why : Why) → ¬ (IsDead s arcs rows marks (nat_abs (to_z w128 (of_z w128 bound))) why))
-    → IsChosen s arcs rows marks known (nat_abs bound) Full (nat_abs (to_z w128 (of_z w128 passed_cost)))
+    → IsActFor s arcs rows marks known (nat_abs bound) Full (nat_abs (to_z w128 (of_z w128 passed_cost)))
 full_chosen s arcs rows marks known bound passed_cost total cables valid are l h full is e none =
     let most = cost-ceiling s arcs cables are full.legal in
     let small = ceiling_small s arcs valid in
@@ -71,8 +71,8 @@ full_chosen s arcs rows marks known bound passed_cost total cables valid are l h
     )
 
 -- a full node has a full layout
-pub chosen-full : (s : Site) (arcs : List Arc) (rows : List Row) (marks : List Mark) (known : Option ℕ) (bound after : ℕ) (act : Act) → IsChosen s arcs rows marks known bound act after
+pub chosen-full : (s : Site) (arcs : List Arc) (rows : List Row) (marks : List Mark) (known : Option ℕ) (bound after : ℕ) (act : Act) → IsActFor s arcs rows marks known bound act after
     → act ≡ Full → (cables : List Cable) × IsFull s arcs marks cables
 chosen-full s arcs rows marks known bound after act chosen e =
-    let full : IsChosen s arcs rows marks known bound Full after = subst (λ (b : Act). IsChosen s arcs rows marks known bound b after) e chosen in
+    let full : IsActFor s arcs rows marks known bound Full after = subst (λ (b : Act). IsActFor s arcs rows marks known bound b after) e chosen in
     (full.0, full.1)

@@ -10,7 +10,7 @@ use Rattle.cable_definitions.specs.declared.claim.Claim.TheVariants.{Optimal, Ga
 use Rattle.cable_definitions.specs.Site.{Site, IsValid}
 use Rattle.cable_definitions.specs.Arcs.{AreArcs}
 use Rattle.cable_definitions.specs.Row.{Row}
-use Rattle.cable_definitions.specs.Tree.{Node, Kept, root, nothing_kept, node_of, Leads, IsAccepted}
+use Rattle.cable_definitions.specs.Tree.{Node, ProofState, root, empty_state, node_of, Leads, IsAccepted}
 use Rattle.cable_definitions.specs.Text.{item_lines}
 use Rattle.cable_definitions.specs.Built.{IsBuiltClaim}
 use Rattle.branch_tree.specs.State.{TreeState}
@@ -18,7 +18,7 @@ use Rattle.proof_laws.specs.Decided.{HasPointRows}
 use Rattle.proof_laws.proofs.Rising.{unworked-root}
 use Rattle.tree_search.specs.Found.{AreAbove, IsOutcome, FindsPlan, WritesPart}
 use Rattle.tree_search.specs.Steps.{rows_kept, Advances}
-use Rattle.tree_search.specs.Progress.{kept_of, unworked_count, AreOpen, IsClosed, AreBeaten, AreCapped, IsSearching, IsSpent, IsFresh}
+use Rattle.tree_search.specs.Progress.{kept_of, unworked_count, AreOpen, IsStoppedOrFull, AreBeaten, AreCapped, IsSearching, IsDone, IsFresh}
 use Rattle.tree_search.specs.declared.progress.Progress.{Progress}
 use Rattle.tree_search.proofs.OpenNodes.{open-root}
 use Rattle.tree_search.proofs.Ceilings.{capped-root}
@@ -31,7 +31,7 @@ fresh-kept s arcs n p rows fresh = λ i. record { rows = rows; nodes = (fresh.tr
 -- nothing is stopped or full in the root alone
 root-beaten : (known : Option ℕ) → AreBeaten known (root ∷ [])
 root-beaten known zero node e settled = absurd (cc)
-root-beaten known (suc zero) node e settled = absurd (let same : root ≡ node = cc in elim (subst IsClosed (sym same) settled) [ inl f ↦ cc | inr f ↦ cc ])
+root-beaten known (suc zero) node e settled = absurd (let same : root ≡ node = cc in elim (subst IsStoppedOrFull (sym same) settled) [ inl f ↦ cc | inr f ↦ cc ])
 root-beaten known (suc (suc k)) node e settled = absurd (cc)
 
 -- after the rows a search has begun
@@ -73,9 +73,9 @@ start-searching s arcs n p rows valid are_arcs fresh listed advances = record {
 
 -- the first part leads to where the works begin
 pub fresh-advances : {A E : Type 0} {r : Result A E} {a b : Option (List ℕ)} {i j : ℕ} (s : Site) (arcs : List Arc) (n : ℕ) (p : Progress) (rows : List Row) → IsFresh s arcs n p
-    → Advances r s arcs n (rows_kept []) (rows_kept rows) a b i j → Advances r s arcs n nothing_kept (kept_of (record p { pool = rows })) a b i j
+    → Advances r s arcs n (rows_kept []) (rows_kept rows) a b i j → Advances r s arcs n empty_state (kept_of (record p { pool = rows })) a b i j
 fresh-advances {r = r} {a} {b} {i} {j} s arcs n p rows fresh advances =
-    subst (λ (kept : Kept). Advances r s arcs n nothing_kept kept a b i j) (sym (fresh-kept s arcs n p rows fresh)) advances
+    subst (λ (kept : ProofState). Advances r s arcs n empty_state kept a b i j) (sym (fresh-kept s arcs n p rows fresh)) advances
 
 -- ---- the end
 -- a claim of any kind is read
@@ -86,21 +86,21 @@ any_built (Partial bound stuck) = refl
 any_built Infeasible = tt
 
 -- some work is done where a search has ended
-pub some-work : (s : Site) (arcs : List Arc) (n : ℕ) (p : Progress) → IsSearching s arcs n p → IsSpent p → p.tree.works ≡ 0 → ⊥
+pub some-work : (s : Site) (arcs : List Arc) (n : ℕ) (p : Progress) → IsSearching s arcs n p → IsDone p → p.tree.works ≡ 0 → ⊥
 some-work s arcs n p searching (inr all) no_work = (let limit = searching.limit in let some = searching.some in omega (arith, all, no_work, limit, some))
 some-work s arcs n p searching (inl none) no_work =
-    let alone : p.tree.nodes ≡ root ∷ [] = unworked-root s arcs n searching.items nothing_kept (kept_of p) searching.accepted (λ e. refl) no_work in
+    let alone : p.tree.nodes ≡ root ∷ [] = unworked-root s arcs n searching.items empty_state (kept_of p) searching.accepted (λ e. refl) no_work in
     let count : count_by (λ w. w == 1) p.open_nodes.items ≡ unworked_count (node_of (root ∷ []) 1) = searching.are_open 1 ∙ ap (λ (nodes : List Node). unworked_count (node_of nodes 1)) alone in
     let left : count_by (λ w. w == 1) p.open_nodes.items ≡ 0 = ap (λ (xs : List ℕ). count_by (λ w. w == 1) xs) none in
     omega (arith, count, left)
 
 -- the plan that a search finds
 pub found : {A E : Type 0} {u : A} {a b : Option (List ℕ)} {i j : ℕ} (s : Site) (arcs : List Arc) (n : ℕ) (p : Progress) (cables : List Cable) (claim : Claim)
-    → Advances {A = A} {E = E} (Ok u) s arcs n nothing_kept (kept_of p) a b i j → IsSearching s arcs n p → IsSpent p → IsOutcome s arcs n (kept_of p) cables claim → FindsPlan s arcs n a b cables claim
+    → Advances {A = A} {E = E} (Ok u) s arcs n empty_state (kept_of p) a b i j → IsSearching s arcs n p → IsDone p → IsOutcome s arcs n (kept_of p) cables claim → FindsPlan s arcs n a b cables claim
 found s arcs n p cables claim advances searching spent outcome = record {
   items = advances.items;
   kept = kept_of p;
-  accepted = subst (Leads s arcs n nothing_kept advances.items) advances.reached advances.leads;
+  accepted = subst (Leads s arcs n empty_state advances.items) advances.reached advances.leads;
   built = record { items_built = advances.built; claim_built = any_built claim };
   outcome = outcome;
   floor = λ nearest total. above (searching.floored nearest total);
@@ -112,11 +112,11 @@ found s arcs n p cables claim advances searching spent outcome = record {
     above (inr h) = h
 
 -- what a search has written where it stops early
-pub stopped_early : {A E : Type 0} {e : E} {a b : Option (List ℕ)} {i j : ℕ} (s : Site) (arcs : List Arc) (n : ℕ) (new : Kept) → Advances {A = A} {E = E} (Err e) s arcs n nothing_kept new a b i j → WritesPart s arcs n a b
+pub stopped_early : {A E : Type 0} {e : E} {a b : Option (List ℕ)} {i j : ℕ} (s : Site) (arcs : List Arc) (n : ℕ) (new : ProofState) → Advances {A = A} {E = E} (Err e) s arcs n empty_state new a b i j → WritesPart s arcs n a b
 stopped_early s arcs n new advances = record { items = advances.items; kept = advances.kept; accepted = advances.leads; written = advances.writes.part }
 
 -- what a search has written where it stops at its end
-pub written_whole : {A E : Type 0} {u : A} {a b : Option (List ℕ)} {i j : ℕ} (s : Site) (arcs : List Arc) (n : ℕ) (new : Kept) → Advances {A = A} {E = E} (Ok u) s arcs n nothing_kept new a b i j → WritesPart s arcs n a b
+pub written_whole : {A E : Type 0} {u : A} {a b : Option (List ℕ)} {i j : ℕ} (s : Site) (arcs : List Arc) (n : ℕ) (new : ProofState) → Advances {A = A} {E = E} (Ok u) s arcs n empty_state new a b i j → WritesPart s arcs n a b
 written_whole {a = a} {b} s arcs n new advances = record {
   items = advances.items;
   kept = advances.kept;

@@ -9,7 +9,7 @@ use Rattle.cable_definitions.specs.declared.row.RowKind.{RowKind}
 use Rattle.cable_definitions.specs.declared.row.RowKind.TheVariants.{Out, Inlet, Bend}
 use Rattle.cable_definitions.specs.Site.{Site}
 use Rattle.cable_definitions.specs.Row.{Row, IsWellFormed, RightCount, InRange, has_one_member, member_count}
-use Rattle.cable_definitions.specs.Tree.{RowItem, Kept, IsListed}
+use Rattle.cable_definitions.specs.Tree.{RowItem, ProofState, IsListed}
 use Rattle.cable_definitions.specs.Text.{row_line}
 use Rattle.cable_definitions.specs.Built.{IsBuiltItem, is_built_kind}
 use Rattle.cable_text.specs.Stream.{Writes}
@@ -108,6 +108,6 @@ in-more s arcs kind count rows listed here p l w = elim (eqb_tells p count) [
 ]
 
 -- the first part begins with no row
-pub advances-first : {E : Type 0} {r : Result (Unit {0}) E} {a b : Option (List ℕ)} {i j : ℕ} (s : Site) (arcs : List Arc) (n : ℕ) (old : List Row) (new : Kept) → old ≡ []
+pub advances-first : {E : Type 0} {r : Result (Unit {0}) E} {a b : Option (List ℕ)} {i j : ℕ} (s : Site) (arcs : List Arc) (n : ℕ) (old : List Row) (new : ProofState) → old ≡ []
     → Advances r s arcs n (rows_kept old) new a b i j → Advances r s arcs n (rows_kept []) new a b i j
 advances-first {r = r} {a} {b} {i} {j} s arcs n old new e p = subst (λ (rows : List Row). Advances r s arcs n (rows_kept rows) new a b i j) e p

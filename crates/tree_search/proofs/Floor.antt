@@ -7,7 +7,7 @@ use Rattle.cable_definitions.specs.declared.row.Mark.TheVariants.{Free, Unused}
 use Rattle.cable_definitions.specs.declared.row.Act.{Act}
 use Rattle.cable_definitions.specs.Site.{Site, IsValid}
 use Rattle.cable_definitions.specs.Arcs.{AreArcs}
-use Rattle.cable_definitions.specs.Tree.{Node, Item, WorkItem, Kept, root, nothing_kept, node_of, marks_of, IsWorked, IsAccepted}
+use Rattle.cable_definitions.specs.Tree.{Node, Item, WorkItem, ProofState, root, empty_state, node_of, marks_of, IsWorked, IsAccepted}
 use Rattle.proof_laws.specs.Decided.{HasPointRows}
 use Rattle.proof_laws.proofs.Boxes.{marks_of-at}
 use Rattle.proof_laws.proofs.Sound.{sound-accepted}
@@ -32,16 +32,16 @@ root_alone arcs (suc zero) node e a f = (let free : Unused ≡ Free = root_mark 
 root_alone arcs (suc (suc k)) node e a f = absurd (cc)
 
 -- before the first work no arc is marked unused
-none_unused : (s : Site) (arcs : List Arc) (n : ℕ) (items : List Item) (kept : Kept) (v : ℕ) (node : Node) → IsAccepted s arcs n items kept → kept.works ≡ 0 → node_of kept.nodes v ≡ Some node
+none_unused : (s : Site) (arcs : List Arc) (n : ℕ) (items : List Item) (kept : ProofState) (v : ℕ) (node : Node) → IsAccepted s arcs n items kept → kept.works ≡ 0 → node_of kept.nodes v ≡ Some node
     → (a : ℕ) → slice_get (marks_of arcs kept.nodes v) a ≢ Some Unused
 none_unused s arcs n items kept v node accepted none e =
-    let alone : kept.nodes ≡ root ∷ [] = unworked-root s arcs n items nothing_kept kept accepted (λ f. refl) none in
+    let alone : kept.nodes ≡ root ∷ [] = unworked-root s arcs n items empty_state kept accepted (λ f. refl) none in
     subst (λ (nodes : List Node). (a : ℕ) → slice_get (marks_of arcs nodes v) a ≢ Some Unused) (sym alone)
     (root_alone arcs v node (subst (λ (nodes : List Node). node_of nodes v ≡ Some node) alone e))
 
 -- ---- works
 -- a work by the weights of the turbines leaves no bound below the sum of the least costs out of them
-pub floored-after : (s : Site) (arcs : List Arc) (n : ℕ) (items : List Item) (old new : Kept) (v : ℕ) (weights : List (ℕ × ℤ)) (act : Act) → IsValid s → AreArcs s arcs → IsAccepted s arcs n items old
+pub floored-after : (s : Site) (arcs : List Arc) (n : ℕ) (items : List Item) (old new : ProofState) (v : ℕ) (weights : List (ℕ × ℤ)) (act : Act) → IsValid s → AreArcs s arcs → IsAccepted s arcs n items old
     → IsWorked s arcs n old v weights act new → HasPointRows s arcs old.rows → AreTurbineWeights s arcs old.rows (marks_of arcs old.nodes v) weights → IsFloored s old.works old.nodes
     → IsFloored s new.works new.nodes
 floored-after s arcs n items old new v weights act valid are accepted work rows turbines floored nearest total = inr (elim (floored nearest total) [

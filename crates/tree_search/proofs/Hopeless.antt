@@ -15,7 +15,7 @@ use Rattle.proof_laws.proofs.FullLemma.{row_at-formed, within-turbine}
 use Rattle.proof_laws.proofs.NoArc.{out-without_arcs}
 use Rattle.tree_search.specs.Found.{IsHopeless}
 use Rattle.tree_search.specs.PointRows.{point_row}
-use Rattle.tree_search.specs.Chosen.{IsAlive, IsChosen}
+use Rattle.tree_search.specs.Chosen.{IsAlive, IsActFor}
 use Rattle.tree_search.specs.Progress.{IsHeldBack}
 use Rattle.tree_search.proofs.OpenNodes.{open_after}
 
@@ -34,7 +34,7 @@ dead_somehow s arcs rows marks bound valid are same has hopeless alive =
 
 -- so each node that is worked is dead, and no node is made
 pub held_back-after : (s : Site) (arcs : List Arc) (rows : List Row) (marks : List Mark) (known : Option ℕ) (act : Act) (bound after works count : ℕ) (rest : List ℕ) → IsValid s → AreArcs s arcs
-    → length marks ≡ length arcs → HasPointRows s arcs rows → IsChosen s arcs rows marks known bound act after → IsHeldBack s works (length rest + 1)
+    → length marks ≡ length arcs → HasPointRows s arcs rows → IsActFor s arcs rows marks known bound act after → IsHeldBack s works (length rest + 1)
     → IsHeldBack s (works + 1) (length (open_after rest act count))
 held_back-after s arcs rows marks known (Split a) bound after works count rest valid are same has chosen held hopeless = absurd (dead_somehow s arcs rows marks bound valid are same has hopeless chosen.2)
 held_back-after s arcs rows marks known Stop bound after works count rest valid are same has chosen held hopeless = absurd (dead_somehow s arcs rows marks bound valid are same has hopeless chosen.2)

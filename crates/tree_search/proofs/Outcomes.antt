@@ -20,7 +20,7 @@ use Rattle.proof_laws.proofs.Sound.{IsSound, sound-accepted, least-sound, none-s
 use Rattle.proof_laws.proofs.WorkCounts.{works-below}
 use Rattle.tree_search.specs.Found.{IsHopeless, IsOutcome}
 use Rattle.tree_search.specs.Chosen.{IsBeaten}
-use Rattle.tree_search.specs.Progress.{kept_of, one_if_unworked, unworked_count, AreOpen, IsBest, IsKnown, IsStuckPart, IsSearching, IsSpent, IsClaimedOf, IsSettledClaim}
+use Rattle.tree_search.specs.Progress.{kept_of, one_if_unworked, unworked_count, AreOpen, IsIncumbent, IsKnown, IsStuckPart, IsSearching, IsDone, IsClaimedOf, IsSettledClaim}
 use Rattle.tree_search.specs.declared.progress.Progress.{Progress}
 use Rattle.tree_search.specs.declared.finding.Plan.{Plan}
 use Rattle.tree_search.proofs.Choosing.{passed_small}
@@ -51,19 +51,19 @@ open_some p are left none =
     omega (arith, one, zero_times)
 
 -- so the budget is spent where the search has ended
-spent-all : (s : Site) (arcs : List Arc) (n : ℕ) (p : Progress) → IsSearching s arcs n p → IsSpent p → IsLeft p → p.tree.works ≡ n
+spent-all : (s : Site) (arcs : List Arc) (n : ℕ) (p : Progress) → IsSearching s arcs n p → IsDone p → IsLeft p → p.tree.works ≡ n
 spent-all s arcs n p searching (inl none) left = absurd (open_some p searching.are_open left none)
 spent-all s arcs n p searching (inr all) left = all ∙ searching.limit
 
 -- and it isn't enough
-not-enough : (s : Site) (arcs : List Arc) (n : ℕ) (p : Progress) → IsSearching s arcs n p → IsSpent p → IsLeft p → enough_budget arcs ≤ n → ⊥
+not-enough : (s : Site) (arcs : List Arc) (n : ℕ) (p : Progress) → IsSearching s arcs n p → IsDone p → IsLeft p → enough_budget arcs ≤ n → ⊥
 not-enough s arcs n p searching spent left enough =
     let all = spent-all s arcs n p searching spent left in
     let below = works-below s arcs n searching.items (kept_of p) searching.valid searching.are_arcs searching.accepted (suc left.place) left.node left.made left.unworked in
     omega (arith, all, below, enough)
 
 -- and an arc leads out of each turbine
-not-hopeless : (s : Site) (arcs : List Arc) (n : ℕ) (p : Progress) → IsSearching s arcs n p → IsSpent p → IsLeft p → IsHopeless s → ⊥
+not-hopeless : (s : Site) (arcs : List Arc) (n : ℕ) (p : Progress) → IsSearching s arcs n p → IsDone p → IsLeft p → IsHopeless s → ⊥
 not-hopeless s arcs n p searching spent left hopeless =
     let all = spent-all s arcs n p searching spent left in
     let few = searching.held_back hopeless in
@@ -119,7 +119,7 @@ outcome-none s arcs n p cables claim searching dead empty is =
 
 -- ---- a part
 -- where no layout is known and some leaf isn't dead, the budget is spent, and the part is what was grown
-pub outcome-part : (s : Site) (arcs : List Arc) (n : ℕ) (p : Progress) (cables : List Cable) (bound : ℕ) (claim : Claim) → IsSearching s arcs n p → IsSpent p → IsLeastBound (kept_of p) bound
+pub outcome-part : (s : Site) (arcs : List Arc) (n : ℕ) (p : Progress) (cables : List Cable) (bound : ℕ) (claim : Claim) → IsSearching s arcs n p → IsDone p → IsLeastBound (kept_of p) bound
     → p.known ≡ None → cables ≡ p.best → claim ≡ Partial bound p.stuck → IsOutcome s arcs n (kept_of p) cables claim
 outcome-part s arcs n p cables bound claim searching spent least unknown same is =
     subst (IsOutcome s arcs n (kept_of p) cables) (sym is) (subst (λ (xs : List Cable). IsOutcome s arcs n (kept_of p) xs (Partial bound p.stuck)) (sym same) (record {
@@ -160,7 +160,7 @@ part_small s arcs n p bound searching least =
     omega (arith, low, small, is_bound)
 
 -- the part as it is handed out
-pub outcome-open : (s : Site) (arcs : List Arc) (n : ℕ) (p : Progress) (cables : List Cable) (claim : Claim) (z : ℤ) → IsSearching s arcs n p → IsSpent p → pos 0 ≤ℤ z
+pub outcome-open : (s : Site) (arcs : List Arc) (n : ℕ) (p : Progress) (cables : List Cable) (claim : Claim) (z : ℤ) → IsSearching s arcs n p → IsDone p → pos 0 ≤ℤ z
     → IsLeastBound (kept_of p) (nat_abs z) → p.known ≡ None → cables ≡ p.best → claim ≡ Partial (nat_abs (to_z w128 (of_z w128 z))) p.stuck → IsOutcome s arcs n (kept_of p) cables claim
 outcome-open s arcs n p cables claim z searching spent l least unknown same is =
     let e = passed_small z l (part_small s arcs n p (nat_abs z) searching least) in
@@ -179,10 +179,10 @@ part_fits s arcs n p z searching l least =
 -- ---- a layout
 -- a known layout is legal
 pub known-legal : (s : Site) (p : Progress) (first : ℕ) → IsKnown s p.best p.stuck p.known → p.known ≡ Some first → IsLegal s p.best
-known-legal s p first k e = (let was : IsBest s p.best first = subst (IsKnown s p.best p.stuck) e k in was.legal)
+known-legal s p first k e = (let was : IsIncumbent s p.best first = subst (IsKnown s p.best p.stuck) e k in was.legal)
 
 -- the best layout, settled, with the claim that the least bound allows
-pub outcome-best : (s : Site) (arcs : List Arc) (n : ℕ) (p : Progress) (cables : List Cable) (first bound : ℕ) (claim : Claim) → IsSearching s arcs n p → IsSpent p → IsLeastBound (kept_of p) bound
+pub outcome-best : (s : Site) (arcs : List Arc) (n : ℕ) (p : Progress) (cables : List Cable) (first bound : ℕ) (claim : Claim) → IsSearching s arcs n p → IsDone p → IsLeastBound (kept_of p) bound
     → p.known ≡ Some first → IsSettledClaim s p.best bound cables claim → IsOutcome s arcs n (kept_of p) cables claim
 outcome-best s arcs n p cables first bound claim searching spent least known settled = by_claim settled.claimed
   where
@@ -192,13 +192,13 @@ outcome-best s arcs n p cables first bound claim searching spent least known set
     best : ℕ
     best = settled.best
 
-    is_best : IsBest s cables best
+    is_best : IsIncumbent s cables best
     is_best = settled.is_settled.is_best
 
     -- it costs no more than the known one
     no_more : best ≤ first
     no_more =
-        let was : IsBest s p.best first = subst (IsKnown s p.best p.stuck) known searching.known in
+        let was : IsIncumbent s p.best first = subst (IsKnown s p.best p.stuck) known searching.known in
         let same = was.cost_is in
         let low = settled.is_settled.no_dearer in
         omega (arith, same, low)
@@ -241,7 +241,7 @@ outcome-best s arcs n p cables first bound claim searching spent least known set
     })
 
 -- the best layout as it is handed out
-pub outcome-settled : {E : Type 0} (s : Site) (arcs : List Arc) (p : Progress) (r : Result Plan E) (first : ℕ) (z : ℤ) → IsSpent p → pos 0 ≤ℤ z → IsLeastBound (kept_of p) (nat_abs z)
+pub outcome-settled : {E : Type 0} (s : Site) (arcs : List Arc) (p : Progress) (r : Result Plan E) (first : ℕ) (z : ℤ) → IsDone p → pos 0 ≤ℤ z → IsLeastBound (kept_of p) (nat_abs z)
     → p.known ≡ Some first → IfOk r (λ plan. IsSettledClaim s p.best (nat_abs (to_z w128 (of_z w128 z))) plan.layout plan.claim)
     → IfOk r (λ plan. (n : ℕ) → IsSearching s arcs n p → IsOutcome s arcs n (kept_of p) plan.layout plan.claim)
 outcome-settled s arcs p (Err e) first z spent l least known settled = tt

@@ -13,7 +13,7 @@ use Rattle.layout_laws.proofs.Arcs.{IsBlocked-ordered, IsSettled-ordered}
 use Rattle.layout_meaning.specs.Order.{ComesBefore}
 use Rattle.start_layout.specs.declared.starting.Start.{Start as AStart}
 use Rattle.start_layout.specs.declared.starting.Start.TheVariants.{Found, Stuck}
-use Rattle.tree_search.specs.Progress.{IsBest, IsStuckPart, BeatsStraight, IsSettledBest}
+use Rattle.tree_search.specs.Progress.{IsIncumbent, IsStuckPart, BeatsStraight, IsSettledBest}
 
 -- where no two cables start alike, those of an arranged layout stand in ascending order of start
 pub arranged-starts : (cables : List Cable) → StartsDiffer cables → AllPairs ComesBefore cables → AllPairs (λ c d. c.from < d.from) cables
@@ -50,7 +50,7 @@ no_dearer s first better same less = elim (either (cost s better) (cost s first)
 
 -- an improved layout in another order
 pub settled_best : (s : Site) (first better arranged cables : List Cable) (best : ℕ) → IsSettled s better → (IsSettled s first → better ≡ first) → (¬ (IsSettled s first) → cost s better < cost s first)
-    → (StartsDiffer better → StartsDiffer arranged) → (StartsDiffer better → SameOuts better arranged) → cables ≡ arranged → IsBest s arranged best → IsSettledBest s first cables best
+    → (StartsDiffer better → StartsDiffer arranged) → (StartsDiffer better → SameOuts better arranged) → cables ≡ arranged → IsIncumbent s arranged best → IsSettledBest s first cables best
 settled_best s first better arranged cables best settled same less differ outs e is_best =
     subst (λ (xs : List Cable). IsSettledBest s first xs best) (sym e) (record {
       settled = IsSettled-ordered s better arranged (differ settled.legal.start) (outs settled.legal.start) settled;

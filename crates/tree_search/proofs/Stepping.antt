@@ -19,7 +19,7 @@ use Rattle.branch_tree.specs.declared.tree.TreeFault.TheVariants.{Budget, Unmade
 use Rattle.branch_tree.specs.State.{TreeState, tree_after}
 use Rattle.turbine_weights.specs.Turbines.{AreTurbineWeights}
 use Rattle.tree_search.specs.Steps.{Advances}
-use Rattle.tree_search.specs.Chosen.{IsChosen, IsBoundOf}
+use Rattle.tree_search.specs.Chosen.{IsActFor, IsNodeBound}
 use Rattle.tree_search.specs.Progress.{kept_of, AreOpen, AreBeaten, AreCapped, IsKnown, IsHeldBack, Settles, IsSearching}
 use Rattle.tree_search.specs.declared.progress.Progress.{Progress}
 use Rattle.tree_search.proofs.Advancing.{leads-then}
@@ -37,10 +37,10 @@ pub record IsStep (s : Site) (arcs : List Arc) (p q : Progress) (v : ℕ) (act :
   pub stuck : q.stuck ≡ p.stuck
   pub rest : List ℕ
   pub popped : p.open_nodes.items ≡ rest ++ v ∷ []
-  pub bound_is : IsBoundOf s arcs p.pool p.tree.nodes v q.work.weights bound
+  pub bound_is : IsNodeBound s arcs p.pool p.tree.nodes v q.work.weights bound
   pub marks : q.decisions ≡ marks_of arcs p.tree.nodes v
   pub marks_count : length q.decisions ≡ length arcs
-  pub chosen : IsChosen s arcs p.pool q.decisions p.known bound act after
+  pub chosen : IsActFor s arcs p.pool q.decisions p.known bound act after
   pub node : Node
   pub made : node_of p.tree.nodes v ≡ Some node
   pub unworked : node.status ≡ Unworked
@@ -110,7 +110,7 @@ step-worked s arcs n p q v act bound after searching step =
     let left = step.left in
     let budget = searching.budget in
     let l : p.tree.works < n = omega (arith, left, budget) in
-    let chosen = subst (λ marks. IsChosen s arcs p.pool marks p.known bound act after) step.marks step.chosen in
+    let chosen = subst (λ marks. IsActFor s arcs p.pool marks p.known bound act after) step.marks step.chosen in
     subst (IsWorked s arcs n (kept_of p) v q.work.weights act) (sym (after-tree p q (tree_after p.tree v step.node act after) step.tree step.pool))
     (is_worked s arcs n (kept_of p) v step.node p.known q.work.weights act bound after step.made step.unworked l step.lawful step.few step.bound_is chosen)
 
@@ -189,8 +189,8 @@ open_by rest new Full count split other = other (λ a e. cc)
 pub is_step : (s : Site) (arcs : List Arc) (p q : Progress) (v : ℕ) (act : Act) (bound after : ℤ) (rest : List ℕ) (count : ℕ) → p.tree.works < p.tree.budget → q.budget ≡ p.budget
     → q.stuck ≡ p.stuck → p.open_nodes.items ≡ rest ++ v ∷ []
     → pos 0 ≤ℤ bound → bound <ℤ pos (2 ^ 100) → pos 0 ≤ℤ after → after <ℤ pos (2 ^ 100)
-    → IsBoundOf s arcs p.pool p.tree.nodes v q.work.weights (nat_abs bound) → q.decisions ≡ marks_of arcs p.tree.nodes v → length q.decisions ≡ length arcs
-    → IsChosen s arcs p.pool q.decisions p.known (nat_abs (to_z w128 (of_z w128 bound))) act (nat_abs after)
+    → IsNodeBound s arcs p.pool p.tree.nodes v q.work.weights (nat_abs bound) → q.decisions ≡ marks_of arcs p.tree.nodes v → length q.decisions ≡ length arcs
+    → IsActFor s arcs p.pool q.decisions p.known (nat_abs (to_z w128 (of_z w128 bound))) act (nat_abs after)
     → (made : Node) × (node_of p.tree.nodes v ≡ Some made) × (made.status ≡ Unworked) × (q.tree ≡ tree_after p.tree v made act (nat_abs (to_z w128 (of_z w128 after))))
     → q.pool ≡ p.pool → count ≡ length p.tree.nodes → ((a : ℕ) → act ≡ Split a → q.open_nodes.items ≡ rest ++ (count + 2) ∷ (count + 1) ∷ [])
     → (((a : ℕ) → ¬ (act ≡ Split a)) → q.open_nodes.items ≡ rest) → vec_capacity q.open_nodes ≡ vec_capacity p.open_nodes
@@ -209,7 +209,7 @@ is_step s arcs p q v act bound after rest count left limit stuck popped b0 b1 a0
       bound_is = is;
       marks = marks;
       marks_count = marks_count;
-      chosen = subst (λ (b : ℕ). IsChosen s arcs p.pool q.decisions p.known b act (nat_abs after)) same_bound chosen;
+      chosen = subst (λ (b : ℕ). IsActFor s arcs p.pool q.decisions p.known b act (nat_abs after)) same_bound chosen;
       node = tree.0;
       made = tree.1;
       unworked = tree.2;

@@ -13,7 +13,7 @@ use Rattle.cable_definitions.specs.Arcs.{AreArcs}
 use Rattle.cable_definitions.specs.Layout.{cost}
 use Rattle.cable_definitions.specs.Row.{Row}
 use Rattle.cable_definitions.specs.Choice.{AreLawful}
-use Rattle.cable_definitions.specs.Tree.{Unworked, WasSplit, Stopped, WasDead, WasFull, Node, WorkItem, Kept, node_of, marks_of, worked, child, IsBound, IsActed, IsWorked}
+use Rattle.cable_definitions.specs.Tree.{Unworked, WasSplit, Stopped, WasDead, WasFull, Node, WorkItem, ProofState, node_of, marks_of, worked, child, IsBound, IsActed, IsWorked}
 use Rattle.cable_definitions.specs.Text.{item_lines}
 use Rattle.cable_definitions.specs.Built.{IsBuiltItem}
 use Rattle.cable_text.specs.Stream.{Writes}
@@ -21,8 +21,8 @@ use Rattle.branch_tree.specs.State.{nodes_after}
 use Rattle.proof_laws.proofs.Boxes.{set_either, append_either}
 use Rattle.proof_laws.proofs.FullNodes.{full-one}
 use Rattle.tree_search.specs.Steps.{Advances}
-use Rattle.tree_search.specs.Chosen.{IsBeaten, IsChosen, IsBoundOf}
-use Rattle.tree_search.specs.Progress.{IsClosed, AreBeaten, IsKnown, Settles}
+use Rattle.tree_search.specs.Chosen.{IsBeaten, IsActFor, IsNodeBound}
+use Rattle.tree_search.specs.Progress.{IsStoppedOrFull, AreBeaten, IsKnown, Settles}
 use Rattle.tree_search.proofs.InOrder.{full-in_order}
 
 -- ---- stopped and full nodes
@@ -32,13 +32,13 @@ StillBeaten old new = (b : ℕ) → IsBeaten old b → IsBeaten new b
 
 -- one node was set
 beaten-set : (nodes : List Node) (v : ℕ) (node y : Node) (old new : Option ℕ) → node_of nodes v ≡ Some node → AreBeaten old nodes → StillBeaten old new
-    → (IsClosed y → IsBeaten new y.bound) → AreBeaten new (slice_set nodes (v - 1) y)
+    → (IsStoppedOrFull y → IsBeaten new y.bound) → AreBeaten new (slice_set nodes (v - 1) y)
 beaten-set nodes zero node y old new e beaten up here u x f settled = absurd (cc)
 beaten-set nodes (suc i) node y old new e beaten up here zero x f settled = absurd (cc)
 beaten-set nodes (suc i) node y old new e beaten up here (suc j) x f settled =
     let q : suc i - 1 ≡ i = omega arith in
     elim (set_either nodes i y node e j x (subst (λ (k : ℕ). slice_get (slice_set nodes k y) j ≡ Some x) q f)) [
-      | inl r ↦ subst (λ (z : Node). IsBeaten new z.bound) r.1 (here (subst IsClosed (sym r.1) settled))
+      | inl r ↦ subst (λ (z : Node). IsBeaten new z.bound) r.1 (here (subst IsStoppedOrFull (sym r.1) settled))
       | inr r ↦ up x.bound (beaten (suc j) x r.1 settled)
     ]
 
@@ -51,7 +51,7 @@ beaten-made nodes v bound a known beaten (suc j) x f settled = elim (append_eith
 ]
   where
     not_settled : (z : Node) → z ≡ x → z.status ≡ Unworked → ⊥
-    not_settled z e u = elim (subst IsClosed (sym e) settled) [ inl p ↦ cc | inr p ↦ cc ]
+    not_settled z e u = elim (subst IsStoppedOrFull (sym e) settled) [ inl p ↦ cc | inr p ↦ cc ]
 
     unsettled : (k : ℕ) → slice_get (child v bound a Used ∷ child v bound a Unused ∷ []) k ≡ Some x → ⊥
     unsettled zero e = not_settled (child v bound a Used) (cc) refl
@@ -59,11 +59,11 @@ beaten-made nodes v bound a known beaten (suc j) x f settled = elim (append_eith
     unsettled (suc (suc k)) e = cc
 
 -- a split or a dead node isn't settled
-unsettled-split : (node : Node) (bound : ℕ) → IsClosed (worked node bound WasSplit) → ⊥
+unsettled-split : (node : Node) (bound : ℕ) → IsStoppedOrFull (worked node bound WasSplit) → ⊥
 unsettled-split node bound (inl e) = cc
 unsettled-split node bound (inr e) = cc
 
-unsettled-dead : (node : Node) (bound : ℕ) → IsClosed (worked node bound WasDead) → ⊥
+unsettled-dead : (node : Node) (bound : ℕ) → IsStoppedOrFull (worked node bound WasDead) → ⊥
 unsettled-dead node bound (inl e) = cc
 unsettled-dead node bound (inr e) = cc
 
@@ -81,7 +81,7 @@ beaten-same old new e b k = subst (λ (o : Option ℕ). IsBeaten o b) (sym e) k
 
 -- an act keeps all stopped and full nodes beaten
 pub beaten-after : (s : Site) (arcs : List Arc) (rows : List Row) (marks : List Mark) (nodes : List Node) (v : ℕ) (node : Node) (act : Act) (bound after : ℕ) (known new_known : Option ℕ) (best new_best : List Cable)
-    → node_of nodes v ≡ Some node → AreBeaten known nodes → IsChosen s arcs rows marks known bound act after → Settles s arcs marks act after known best new_known new_best
+    → node_of nodes v ≡ Some node → AreBeaten known nodes → IsActFor s arcs rows marks known bound act after → Settles s arcs marks act after known best new_known new_best
     → AreBeaten new_known (nodes_after nodes v node act after)
 beaten-after s arcs rows marks nodes v node (Split a) bound after known new_known best new_best e beaten chosen settles =
     beaten-made (slice_set nodes (v - 1) (worked node after WasSplit)) v after a new_known
@@ -104,7 +104,7 @@ known-same s old new stuck cables new_cables e f k = subst (λ (o : Option ℕ).
 
 -- an act leaves the best layout known
 pub known-after : (s : Site) (arcs : List Arc) (rows : List Row) (marks : List Mark) (act : Act) (bound after stuck : ℕ) (known new_known : Option ℕ) (best new_best : List Cable)
-    → AreArcs s arcs → IsKnown s best stuck known → IsChosen s arcs rows marks known bound act after → Settles s arcs marks act after known best new_known new_best → IsKnown s new_best stuck new_known
+    → AreArcs s arcs → IsKnown s best stuck known → IsActFor s arcs rows marks known bound act after → Settles s arcs marks act after known best new_known new_best → IsKnown s new_best stuck new_known
 known-after s arcs rows marks (Split a) bound after stuck known new_known best new_best are k chosen settles = known-same s known new_known stuck best new_best settles.0 settles.1 k
 known-after s arcs rows marks Stop bound after stuck known new_known best new_best are k chosen settles = known-same s known new_known stuck best new_best settles.0 settles.1 k
 known-after s arcs rows marks (Dead why) bound after stuck known new_known best new_best are k chosen settles = known-same s known new_known stuck best new_best settles.0 settles.1 k
@@ -128,8 +128,8 @@ still-beaten s arcs marks Full after known new_known best new_best (inr takes) =
 
 -- ---- the work
 -- the act that was chosen may be done
-acted : (s : Site) (arcs : List Arc) (kept : Kept) (v : ℕ) (node : Node) (known : Option ℕ) (act : Act) (bound after : ℕ) (value : ℤ) → IsBound node.bound value bound
-    → IsChosen s arcs kept.rows (marks_of arcs kept.nodes v) known bound act after → IsActed s arcs kept v node value act (nodes_after kept.nodes v node act after)
+acted : (s : Site) (arcs : List Arc) (kept : ProofState) (v : ℕ) (node : Node) (known : Option ℕ) (act : Act) (bound after : ℕ) (value : ℤ) → IsBound node.bound value bound
+    → IsActFor s arcs kept.rows (marks_of arcs kept.nodes v) known bound act after → IsActed s arcs kept v node value act (nodes_after kept.nodes v node act after)
 acted s arcs kept v node known (Split a) bound after value is chosen = (after, subst (IsBound node.bound value) (sym chosen.1) is, chosen.0, refl)
 acted s arcs kept v node known Stop bound after value is chosen = (after, subst (IsBound node.bound value) (sym chosen.1) is, refl)
 acted s arcs kept v node known (Dead why) bound after value is chosen = (
@@ -145,13 +145,13 @@ acted s arcs kept v node known Full bound after value is chosen = (
 )
 
 -- what a work leaves behind
-abbrev pub kept_after : Kept → ℕ → Node → Act → ℕ → Kept
+abbrev pub kept_after : ProofState → ℕ → Node → Act → ℕ → ProofState
 kept_after kept v node act after = record { rows = kept.rows; nodes = nodes_after kept.nodes v node act after; works = kept.works + 1 }
 
 -- the work is accepted
-pub is_worked : (s : Site) (arcs : List Arc) (n : ℕ) (kept : Kept) (v : ℕ) (node : Node) (known : Option ℕ) (weights : List (ℕ × ℤ)) (act : Act) (bound after : ℕ) → node_of kept.nodes v ≡ Some node
-    → node.status ≡ Unworked → kept.works < n → AreLawful kept.rows weights → length weights ≤ 1024 → IsBoundOf s arcs kept.rows kept.nodes v weights bound
-    → IsChosen s arcs kept.rows (marks_of arcs kept.nodes v) known bound act after → IsWorked s arcs n kept v weights act (kept_after kept v node act after)
+pub is_worked : (s : Site) (arcs : List Arc) (n : ℕ) (kept : ProofState) (v : ℕ) (node : Node) (known : Option ℕ) (weights : List (ℕ × ℤ)) (act : Act) (bound after : ℕ) → node_of kept.nodes v ≡ Some node
+    → node.status ≡ Unworked → kept.works < n → AreLawful kept.rows weights → length weights ≤ 1024 → IsNodeBound s arcs kept.rows kept.nodes v weights bound
+    → IsActFor s arcs kept.rows (marks_of arcs kept.nodes v) known bound act after → IsWorked s arcs n kept v weights act (kept_after kept v node act after)
 is_worked s arcs n kept v node known weights act bound after e u l lawful few is chosen = record {
   node = node;
   made = e;
@@ -167,7 +167,7 @@ is_worked s arcs n kept v node known weights act bound after e u l lawful few is
 }
 
 -- a work that is accepted is an item
-pub advances-work : {A E : Type 0} {r : Result A E} {a b : Option (List ℕ)} {i j : ℕ} (s : Site) (arcs : List Arc) (n : ℕ) (old new : Kept) (v : ℕ) (weights : List (ℕ × ℤ)) (act : Act) → IsWorked s arcs n old v weights act new
+pub advances-work : {A E : Type 0} {r : Result A E} {a b : Option (List ℕ)} {i j : ℕ} (s : Site) (arcs : List Arc) (n : ℕ) (old new : ProofState) (v : ℕ) (weights : List (ℕ × ℤ)) (act : Act) → IsWorked s arcs n old v weights act new
     → Writes r a b i j (item_lines (WorkItem v weights act)) → Advances r s arcs n old new a b i j
 advances-work {A} {E} {r} {a} {b} {i} {j} s arcs n old new v weights act w writes = record {
   items = WorkItem v weights act ∷ [];

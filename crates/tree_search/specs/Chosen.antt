@@ -24,14 +24,14 @@ IsAlive s arcs rows marks bound = (why : Why) → ¬ (IsDead s arcs rows marks b
 
 -- the act may be done on a node with these marks and this new bound, where this cost is known; the node is left with the last bound. A node of
 -- which some reason is true is dead.
-abbrev pub IsChosen : Site → List Arc → List Row → List Mark → Option ℕ → ℕ → Act → ℕ → Type 0
-IsChosen s arcs rows marks known bound (Split a) after = (slice_get marks a ≡ Some Free) × (after ≡ bound) × IsAlive s arcs rows marks bound
-IsChosen s arcs rows marks known bound Stop after = IsBeaten known bound × (after ≡ bound) × IsAlive s arcs rows marks bound
-IsChosen s arcs rows marks known bound (Dead why) after = IsDead s arcs rows marks bound why × (after ≡ bound)
-IsChosen s arcs rows marks known bound Full after = (cables : List Cable) × IsFull s arcs marks cables × (after ≡ cost s cables) × IsAlive s arcs rows marks bound
+abbrev pub IsActFor : Site → List Arc → List Row → List Mark → Option ℕ → ℕ → Act → ℕ → Type 0
+IsActFor s arcs rows marks known bound (Split a) after = (slice_get marks a ≡ Some Free) × (after ≡ bound) × IsAlive s arcs rows marks bound
+IsActFor s arcs rows marks known bound Stop after = IsBeaten known bound × (after ≡ bound) × IsAlive s arcs rows marks bound
+IsActFor s arcs rows marks known bound (Dead why) after = IsDead s arcs rows marks bound why × (after ≡ bound)
+IsActFor s arcs rows marks known bound Full after = (cables : List Cable) × IsFull s arcs marks cables × (after ≡ cost s cables) × IsAlive s arcs rows marks bound
 
 -- the bound that these weights give node v
-pub record IsBoundOf (s : Site) (arcs : List Arc) (rows : List Row) (nodes : List Node) (v : ℕ) (weights : List (ℕ × ℤ)) (bound : ℕ) : Type 0 where
+pub record IsNodeBound (s : Site) (arcs : List Arc) (rows : List Row) (nodes : List Node) (v : ℕ) (weights : List (ℕ × ℤ)) (bound : ℕ) : Type 0 where
   pub value : ℤ
   pub is_value : IsValue s arcs rows (marks_of arcs nodes v) weights value
   pub is_bound : (node : Node) → node_of nodes v ≡ Some node → IsBound node.bound value bound

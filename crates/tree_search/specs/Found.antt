@@ -10,7 +10,7 @@ use Rattle.cable_definitions.specs.Arcs.{IsCandidate, kind_of, is_turbine}
 use Rattle.cable_definitions.specs.Layout.{IsLegal, cost}
 use Rattle.cable_definitions.specs.Part.{IsSettled, IsStraight}
 use Rattle.cable_definitions.specs.Budget.{IsNearest, enough_budget}
-use Rattle.cable_definitions.specs.Tree.{WasFull, Node, Item, Kept, node_of, IsAccepted, Agrees}
+use Rattle.cable_definitions.specs.Tree.{WasFull, Node, Item, ProofState, node_of, IsAccepted, Agrees}
 use Rattle.cable_definitions.specs.Text.{item_lines}
 use Rattle.cable_definitions.specs.Built.{AreBuilt}
 use Rattle.cable_text.specs.Stream.{Appends, AppendsPrefix}
@@ -48,7 +48,7 @@ AreAbove m nodes = (v : ℕ) (node : Node) → node_of nodes v ≡ Some node →
 -- final where n is enough, and where no arc leads out of some turbine it is that there is no layout. A layout with a cost is settled, and costs no
 -- more than the straight layout, where that is legal, nor than the layout of any full node; where there is one of these, a layout with a cost is
 -- claimed.
-pub record IsOutcome (s : Site) (arcs : List Arc) (n : ℕ) (kept : Kept) (cables : List Cable) (claim : Claim) : Type 0 where
+pub record IsOutcome (s : Site) (arcs : List Arc) (n : ℕ) (kept : ProofState) (cables : List Cable) (claim : Claim) : Type 0 where
   pub in_order : AllPairs (λ c d. c.from < d.from) cables
   pub agrees : Agrees s n kept cables claim
   pub closed : enough_budget arcs ≤ n → IsFinal claim
@@ -62,7 +62,7 @@ pub record IsOutcome (s : Site) (arcs : List Arc) (n : ℕ) (kept : Kept) (cable
 -- out of the turbines.
 pub record FindsPlan (s : Site) (arcs : List Arc) (n : ℕ) (taken_old taken_new : Option (List ℕ)) (cables : List Cable) (claim : Claim) : Type 0 where
   pub items : List Item
-  pub kept : Kept
+  pub kept : ProofState
   pub accepted : IsAccepted s arcs n items kept
   pub built : AreBuilt items claim
   pub outcome : IsOutcome s arcs n kept cables claim
@@ -72,6 +72,6 @@ pub record FindsPlan (s : Site) (arcs : List Arc) (n : ℕ) (taken_old taken_new
 -- a first part of the lines of accepted items was appended
 pub record WritesPart (s : Site) (arcs : List Arc) (n : ℕ) (taken_old taken_new : Option (List ℕ)) : Type 0 where
   pub items : List Item
-  pub kept : Kept
+  pub kept : ProofState
   pub accepted : IsAccepted s arcs n items kept
   pub written : AppendsPrefix taken_old taken_new (concat (map item_lines items))

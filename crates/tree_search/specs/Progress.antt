@@ -12,7 +12,7 @@ use Rattle.cable_definitions.specs.Arcs.{AreArcs}
 use Rattle.cable_definitions.specs.Budget.{IsNearest}
 use Rattle.cable_definitions.specs.Layout.{IsLegal, cost}
 use Rattle.cable_definitions.specs.Part.{IsBlocked, IsSettled, IsStraight}
-use Rattle.cable_definitions.specs.Tree.{Status, Unworked, WasSplit, Stopped, WasDead, WasFull, Node, Item, Kept, node_of, ceiling, is_open_leaf, IsAccepted, IsFull}
+use Rattle.cable_definitions.specs.Tree.{Status, Unworked, WasSplit, Stopped, WasDead, WasFull, Node, Item, ProofState, node_of, ceiling, is_open_leaf, IsAccepted, IsFull}
 use Rattle.proof_laws.specs.Decided.{HasPointRows}
 use Rattle.branch_tree.specs.State.{new_tree}
 use Rattle.tree_search.specs.declared.progress.Progress.{Progress}
@@ -20,7 +20,7 @@ use Rattle.tree_search.specs.Chosen.{IsBeaten}
 use Rattle.tree_search.specs.Found.{AreAbove, IsHopeless}
 
 -- what the search keeps of its items
-abbrev pub kept_of : Progress → Kept
+abbrev pub kept_of : Progress → ProofState
 kept_of p = record { rows = p.pool; nodes = p.tree.nodes; works = p.tree.works }
 
 -- 1 for a node that isn't worked
@@ -41,15 +41,15 @@ abbrev pub AreOpen : List Node → List ℕ → Type 0
 AreOpen nodes open_nodes = (v : ℕ) → count_by (λ w. w == v) open_nodes ≡ unworked_count (node_of nodes v)
 
 -- the node was stopped, or is full
-abbrev pub IsClosed : Node → Type 0
-IsClosed node = (node.status ≡ Stopped) ⊎ (node.status ≡ WasFull)
+abbrev pub IsStoppedOrFull : Node → Type 0
+IsStoppedOrFull node = (node.status ≡ Stopped) ⊎ (node.status ≡ WasFull)
 
 -- no stopped or full node has a bound below the known cost; none is stopped or full where no cost is known
 abbrev pub AreBeaten : Option ℕ → List Node → Type 0
-AreBeaten known nodes = (v : ℕ) (node : Node) → node_of nodes v ≡ Some node → IsClosed node → IsBeaten known node.bound
+AreBeaten known nodes = (v : ℕ) (node : Node) → node_of nodes v ≡ Some node → IsStoppedOrFull node → IsBeaten known node.bound
 
 -- a legal layout with this cost, in ascending order of start
-pub record IsBest (s : Site) (cables : List Cable) (best : ℕ) : Type 0 where
+pub record IsIncumbent (s : Site) (cables : List Cable) (best : ℕ) : Type 0 where
   pub legal : IsLegal s cables
   pub cost_is : cost s cables ≡ best
   pub in_order : AllPairs (λ c d. c.from < d.from) cables
@@ -62,7 +62,7 @@ pub record IsStuckPart (s : Site) (cables : List Cable) (stuck : ℕ) : Type 0 w
 -- the best layout where a cost is known, and where none is, a part to which a turbine can't be joined
 abbrev pub IsKnown : Site → List Cable → ℕ → Option ℕ → Type 0
 IsKnown s cables stuck None = IsStuckPart s cables stuck
-IsKnown s cables stuck (Some best) = IsBest s cables best
+IsKnown s cables stuck (Some best) = IsIncumbent s cables best
 
 -- the known cost is at most that of the straight layout, where that is legal
 abbrev pub BeatsStraight : Site → Option ℕ → Type 0
@@ -129,13 +129,13 @@ Settles s arcs marks Stop total known best new_known new_best = (new_known ≡ k
 Settles s arcs marks (Dead why) total known best new_known new_best = (new_known ≡ known) × (new_best ≡ best)
 
 -- no node is open, or as many works were done as the budget has
-abbrev pub IsSpent : Progress → Type 0
-IsSpent p = (p.open_nodes.items ≡ []) ⊎ (p.tree.works ≡ p.budget)
+abbrev pub IsDone : Progress → Type 0
+IsDone p = (p.open_nodes.items ≡ []) ⊎ (p.tree.works ≡ p.budget)
 
 -- a settled layout in ascending order of start with this cost, which is at most that of the first one
 pub record IsSettledBest (s : Site) (first cables : List Cable) (best : ℕ) : Type 0 where
   pub settled : IsSettled s cables
-  pub is_best : IsBest s cables best
+  pub is_best : IsIncumbent s cables best
   pub no_dearer : best ≤ cost s first
 
 -- the claim that a cost is optimal, where the bound reaches it, or else of the gap between them

@@ -4,19 +4,19 @@ use Rattle.std.specs.List.{concat}
 use Rattle.cable_definitions.specs.declared.cable.Arc.{Arc}
 use Rattle.cable_definitions.specs.Site.{Site}
 use Rattle.cable_definitions.specs.Row.{Row}
-use Rattle.cable_definitions.specs.Tree.{Item, Kept, nothing_kept, Leads}
+use Rattle.cable_definitions.specs.Tree.{Item, ProofState, empty_state, Leads}
 use Rattle.cable_definitions.specs.Text.{item_lines}
 use Rattle.cable_definitions.specs.Built.{IsBuiltItem}
 use Rattle.cable_text.specs.Stream.{Writes}
 
 -- what rows alone leave behind
-abbrev pub rows_kept : List Row → Kept
-rows_kept rows = record nothing_kept { rows = rows }
+abbrev pub rows_kept : List Row → ProofState
+rows_kept rows = record empty_state { rows = rows }
 
 -- Items lead on from what was kept, and their lines are written; where all are written, what they leave behind is kept now.
-pub record Advances {A E : Type 0} (result : Result A E) (s : Site) (arcs : List Arc) (n : ℕ) (old new : Kept) (taken_old taken_new : Option (List ℕ)) (faults_old faults_new : ℕ) : Type 0 where
+pub record Advances {A E : Type 0} (result : Result A E) (s : Site) (arcs : List Arc) (n : ℕ) (old new : ProofState) (taken_old taken_new : Option (List ℕ)) (faults_old faults_new : ℕ) : Type 0 where
   pub items : List Item
-  pub kept : Kept
+  pub kept : ProofState
   pub leads : Leads s arcs n old items kept
   pub built : All IsBuiltItem items
   pub writes : Writes result taken_old taken_new faults_old faults_new (concat (map item_lines items))

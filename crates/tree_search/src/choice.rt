@@ -9,7 +9,7 @@ ghost use Rattle.cable_definitions.specs.Choice.{AreLawful};
 ghost use Rattle.turbine_weights.specs.Turbines.{AreTurbineWeights};
 ghost use Rattle.proof_laws.specs.Decided.{HasPointRows};
 ghost use Rattle.branch_tree.specs.State.{IsMade};
-ghost use Rattle.tree_search.specs.Chosen.{IsBeaten, IsChosen, IsBoundOf};
+ghost use Rattle.tree_search.specs.Chosen.{IsBeaten, IsActFor, IsNodeBound};
 
 use bound_value::{Decisions, Mark, Weights, rounded_bound, weigh};
 use branch_tree::{Act, Tree};
@@ -47,7 +47,7 @@ pub(crate) fn bound_of(
     ensures lawful { AreLawful pool.now weights.new }
     ensures few { length weights.new ≤ 1024 }
     ensures weights { AreTurbineWeights site.now arcs.now pool.now decisions.new weights.new }
-    ensures bound { IsBoundOf site.now arcs.now pool.now tree.now.nodes node weights.new (unsigned_abs result) }
+    ensures bound { IsNodeBound site.now arcs.now pool.now tree.now.nodes node weights.new (unsigned_abs result) }
     ensures not_negative { pos 0 ≤ℤ result }
     ensures small { result <ℤ pos (2 ^ 100) }
 {
@@ -98,7 +98,7 @@ pub(crate) fn choose(
     requires rows { HasPointRows site.now arcs.now pool.now }
     requires not_negative { pos 0 ≤ℤ bound }
     requires small { bound <ℤ pos (2 ^ 100) }
-    ensures chosen { IsChosen site.now arcs.now pool.now decisions.now known (unsigned_abs bound) result.act (unsigned_abs result.bound) }
+    ensures chosen { IsActFor site.now arcs.now pool.now decisions.now known (unsigned_abs bound) result.act (unsigned_abs result.bound) }
     ensures not_negative { pos 0 ≤ℤ result.bound }
     ensures small { result.bound <ℤ pos (2 ^ 100) }
     ensures cost { result.act ≡ Act.Full → result.bound <ℤ pos (2 ^ 64) }

@@ -4,10 +4,10 @@ ghost use Rattle.std.specs.Prelude.{◌≡◌, ℕ, ◌+◌, ◌^◌, ◌≤◌,
 ghost use Rattle.cable_definitions.specs.declared.cable.Cable.{Cable};
 ghost use Rattle.cable_definitions.specs.Arcs.{AreArcs};
 ghost use Rattle.cable_definitions.specs.Layout.{cost as cost_of_all};
-ghost use Rattle.cable_definitions.specs.Tree.{IsFull, nothing_kept};
+ghost use Rattle.cable_definitions.specs.Tree.{IsFull, empty_state};
 ghost use Rattle.tree_search.specs.Steps.{Advances};
 ghost use Rattle.tree_search.specs.Found.{IsOutcome};
-ghost use Rattle.tree_search.specs.Progress.{kept_of, IsFresh, IsSearching, IsSpent, KeepsBest, Settles};
+ghost use Rattle.tree_search.specs.Progress.{kept_of, IsFresh, IsSearching, IsDone, KeepsBest, Settles};
 
 use crate::choice::{Choice, bound_of, choose, is_beaten};
 use crate::finding::Plan;
@@ -159,7 +159,7 @@ impl Progress {
             → Advances result site.now arcs.now n (kept_of self.old) (kept_of self.new) (O.taken out.old) (O.taken out.new) (O.faults out.old) (O.faults out.new) }
         ensures searching { OnOk result ((n : ℕ) → IsSearching site.now arcs.now n self.old → IsSearching site.now arcs.now n self.new) }
         ensures more { IfOk result (λ more. IsTrue more → (self.old.tree.works < self.old.tree.budget) × (self.new.tree.works ≡ self.old.tree.works + 1)) }
-        ensures none { IfOk result (λ more. more ≡ false → IsSpent self.new) }
+        ensures none { IfOk result (λ more. more ≡ false → IsDone self.new) }
     {
         if self.tree.works() == self.budget {
             return Ok(false);
@@ -217,7 +217,7 @@ impl Progress {
         ensures advances { (n : ℕ) → IsSearching site.now arcs.now n self.old
             → Advances result site.now arcs.now n (kept_of self.old) (kept_of self.new) (O.taken out.old) (O.taken out.new) (O.faults out.old) (O.faults out.new) }
         ensures searching { OnOk result ((n : ℕ) → IsSearching site.now arcs.now n self.old → IsSearching site.now arcs.now n self.new) }
-        ensures spent { OnOk result (IsSpent self.new) }
+        ensures spent { OnOk result (IsDone self.new) }
     {
         while self.step(site, arcs, out)? {}
         Ok(())
@@ -237,9 +237,9 @@ impl Progress {
         requires arcs { AreArcs site.now arcs.now }
         requires fresh { (n : ℕ) × IsFresh site.now arcs.now n self.old }
         ensures advances { (n : ℕ) → IsFresh site.now arcs.now n self.old
-            → Advances result site.now arcs.now n nothing_kept (kept_of self.new) (O.taken out.old) (O.taken out.new) (O.faults out.old) (O.faults out.new) }
+            → Advances result site.now arcs.now n empty_state (kept_of self.new) (O.taken out.old) (O.taken out.new) (O.faults out.old) (O.faults out.new) }
         ensures searching { OnOk result ((n : ℕ) → IsFresh site.now arcs.now n self.old → IsSearching site.now arcs.now n self.new) }
-        ensures spent { OnOk result (IsSpent self.new) }
+        ensures spent { OnOk result (IsDone self.new) }
     {
         let _valid = site.points();
         list_first_rows(site, arcs, &mut self.pool, out)?;
@@ -260,7 +260,7 @@ impl Progress {
     ) -> Result<Plan, AllocError>
         requires arcs { AreArcs site.now arcs.now }
         requires searching { (n : ℕ) × IsSearching site.now arcs.now n self }
-        requires spent { IsSpent self }
+        requires spent { IsDone self }
         ensures { IfOk result (λ plan. (n : ℕ) → IsSearching site.now arcs.now n self → IsOutcome site.now arcs.now n (kept_of self) plan.layout plan.claim) }
     {
         let Some(bound) = self.tree.least() else {

@@ -3,7 +3,7 @@
 ghost use Rattle.std.specs.Prelude.{◌≡◌, ◌<◌, AllPairs, IfOk};
 ghost use Rattle.cable_definitions.specs.Arcs.{AreArcs};
 ghost use Rattle.cable_definitions.specs.Layout.{IsLegal, cost as cost_of_all};
-ghost use Rattle.tree_search.specs.Progress.{IsKnown, IsBest, IsSettledBest, BeatsStraight};
+ghost use Rattle.tree_search.specs.Progress.{IsKnown, IsIncumbent, IsSettledBest, BeatsStraight};
 
 use candidate_cables::Arcs;
 use layout_meaning::{Layout, Verdict, judge};
@@ -82,7 +82,7 @@ fn with_cost(site: &Site, layout: Layout) -> Settled
     requires legal { IsLegal site.now layout }
     requires in_order { AllPairs (λ c d. c.from < d.from) layout }
     ensures same { result.layout ≡ layout }
-    ensures best { IsBest site.now layout result.cost }
+    ensures best { IsIncumbent site.now layout result.cost }
 {
     match judge(site, &layout) {
         Verdict::Legal(cost) => Settled { layout, cost },

@@ -10,7 +10,7 @@ use Rattle.cable_definitions.specs.Arcs.{Bears, power_of, cost_of}
 use Rattle.candidate_cables.specs.Tables.{IsFirstFrom}
 use Rattle.site_model.specs.Best.{most_cost}
 use Rattle.turbine_weights.specs.Turbines.{IsLeft, IsLeastLeft}
-use Rattle.turbine_weights.specs.Least.{IsOwnCost, lesser}
+use Rattle.turbine_weights.specs.Least.{IsOwnCost, lesser_cost}
 use Rattle.turbine_weights.proofs.OwnCosts.{same_place}
 
 -- what a least cost says of arc number b
@@ -46,7 +46,7 @@ under_own s arcs marks arc n cost low e own l other beside left bears =
 
 -- one arc more out of the point
 more_left : (s : Site) (arcs : List Arc) (marks : List Mark) (arc : Arc) (n : ℕ) (least cost : Option ℕ) → slice_get arcs n ≡ Some arc → IsCostLeft s arcs marks n cost
-    → IsLeastBelow s arcs marks arc.from n least → IsLeastBelow s arcs marks arc.from (n + 1) (lesser least cost)
+    → IsLeastBelow s arcs marks arc.from n least → IsLeastBelow s arcs marks arc.from (n + 1) (lesser_cost least cost)
 more_left s arcs marks arc n None None e c h = below_more (λ (k : ℕ). (other : Arc) → ¬ (IsLeft arcs marks arc.from k other)) n h (λ other left. left.not_unused c.none)
 more_left s arcs marks arc n None (Some cost) e c h = record {
   a = n;
@@ -101,11 +101,11 @@ some_at xs i l = elim (slice_get_cases xs i).1 [
 
 -- one arc more
 pub left_more : (s : Site) (arcs : List Arc) (marks : List Mark) (p first past n : ℕ) (least cost : Option ℕ) → IsFirstFrom arcs p first → IsFirstFrom arcs (p + 1) past → first ≤ n → n < past
-    → IsCostLeft s arcs marks n cost → IsLeastBelow s arcs marks p n least → IsLeastBelow s arcs marks p (n + 1) (lesser least cost)
+    → IsCostLeft s arcs marks n cost → IsLeastBelow s arcs marks p n least → IsLeastBelow s arcs marks p (n + 1) (lesser_cost least cost)
 left_more s arcs marks p first past n least cost f g l k c =
     let here = some_at arcs n (omega (arith, k, g.within)) in
     let from : here.0.from ≡ p = omega (arith, f.later n here.0 l here.1, g.earlier n here.0 k here.1) in
-    subst (λ (q : ℕ). IsLeastBelow s arcs marks q n least → IsLeastBelow s arcs marks q (n + 1) (lesser least cost)) from (more_left s arcs marks here.0 n least cost here.1 c)
+    subst (λ (q : ℕ). IsLeastBelow s arcs marks q n least → IsLeastBelow s arcs marks q (n + 1) (lesser_cost least cost)) from (more_left s arcs marks here.0 n least cost here.1 c)
 
 -- no arc out of the point comes past its last
 left_within : (arcs : List Arc) (marks : List Mark) (p past n a : ℕ) (arc : Arc) → IsFirstFrom arcs (p + 1) past → past ≤ n → IsLeft arcs marks p a arc → a < n
@@ -134,7 +134,7 @@ left_some s arcs marks p past n (Some cost) g l h = record {
 }
 
 -- the lesser of two small costs is small
-pub lesser_small : (least cost : Option ℕ) → IfSome least (λ n. n ≤ most_cost) → IfSome cost (λ n. n ≤ most_cost) → IfSome (lesser least cost) (λ n. n ≤ most_cost)
+pub lesser_small : (least cost : Option ℕ) → IfSome least (λ n. n ≤ most_cost) → IfSome cost (λ n. n ≤ most_cost) → IfSome (lesser_cost least cost) (λ n. n ≤ most_cost)
 lesser_small None cost h k = k
 lesser_small (Some least) None h k = h
 lesser_small (Some least) (Some cost) h k = omega (arith, h, k)

@@ -12,7 +12,7 @@ pub record IsOwnCost (s : Site) (arc : Arc) (cost : ℕ) : Type 0 where
   pub least : (other : ℕ) → Bears s other (power_of s arc.from) → cost ≤ cost_of s arc.from arc.to other (power_of s arc.from)
 
 -- the lesser of two costs, of which each may be missing
-abbrev pub lesser : Option ℕ → Option ℕ → Option ℕ
-lesser None b = b
-lesser (Some a) None = Some a
-lesser (Some a) (Some b) = Some (min a b)
+abbrev pub lesser_cost : Option ℕ → Option ℕ → Option ℕ
+lesser_cost None b = b
+lesser_cost (Some a) None = Some a
+lesser_cost (Some a) (Some b) = Some (min a b)

@@ -6,7 +6,7 @@ ghost use Rattle.cable_definitions.specs.declared.row.Mark.TheVariants.{Unused};
 ghost use Rattle.cable_definitions.specs.Arcs.{AreArcs, power_of_kind};
 ghost use Rattle.site_model.specs.Best.{most_cost};
 ghost use Rattle.turbine_weights.specs.Turbines.{IsLeft, IsLeastLeft};
-ghost use Rattle.turbine_weights.specs.Least.{IsOwnCost, lesser as lesser_of};
+ghost use Rattle.turbine_weights.specs.Least.{IsOwnCost, lesser_cost as lesser_of};
 
 use bound_value::{Decisions, Mark};
 use candidate_cables::{Arc, Arcs};

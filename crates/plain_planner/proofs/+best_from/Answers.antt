@@ -1,6 +1,6 @@
 use Rattle.std.proofs.Common.{◌+◌, List, length, get_or, arith, sym, ◌∙◌, ap, subst}
 use Rattle.cable_definitions.specs.declared.cable.Cable.{Cable}
-use Rattle.plain_planner.specs.Choices.{cable_to, Completes, CompletesBelow, IsBest}
+use Rattle.plain_planner.specs.Choices.{cable_to, Completes, CompletesBelow, IsBestTried}
 use Rattle.plain_planner.proofs.Best.{one_more_end, all_ends, popped, pushed_on, kept_on}
 use Rattle.plain_planner.proofs.+best_from.Goals as goal
 
@@ -11,10 +11,10 @@ loop-to-preserved n c =
     let chosen = c.args.chosen.now.items in
     let pushed = pushed_on c.push.new.self.items c.loop-to.chosen.items chosen (cable_to p c.loop-to.to) c.in_ok-push.ensures.items c.loop-to.invariant.same in
     let back = kept_on c.best_from-in-loop-to.new.chosen.items c.push.new.self.items chosen (cable_to p c.loop-to.to) c.in_ok-found.ensures.same pushed in
-    let found = subst (λ (xs : List Cable). IsBest s (Completes s xs (p + 1)) c.in_ok-found.found) pushed c.in_ok-found.ensures.best in
+    let found = subst (λ (xs : List Cable). IsBestTried s (Completes s xs (p + 1)) c.in_ok-found.found) pushed c.in_ok-found.ensures.best in
     record {
       same = popped c.best_from-in-loop-to.new.chosen.items c.pop.new.self.items chosen (cable_to p c.loop-to.to) _ c.pop.ensures.rest c.best_from-in-loop-to.new.chosen.ok.0 back;
-      best = subst (IsBest s (CompletesBelow s chosen p (c.loop-to.to + 1))) (sym c.cheaper-best.ensures) (one_more_end s chosen p c.loop-to.to c.loop-to.best c.in_ok-found.found c.loop-to.invariant.best found);
+      best = subst (IsBestTried s (CompletesBelow s chosen p (c.loop-to.to + 1))) (sym c.cheaper-best.ensures) (one_more_end s chosen p c.loop-to.to c.loop-to.best c.in_ok-found.found c.loop-to.invariant.best found);
     }
 
 pub returns-clause-best : goal.returns-clause-best

@@ -3,7 +3,7 @@ use Rattle.std.proofs.lemmas.Result.{err_from_is_err_and}
 use Rattle.serde_json.specs.View.{view}
 use Rattle.cable_definitions.specs.declared.site.SiteCode.TheVariants.{Shape}
 use Rattle.cable_definitions.specs.Items.{Draft, TheEnd}
-use Rattle.site_json.specs.Faults.{Leads, Fails, listed}
+use Rattle.site_json.specs.Faults.{LeadsOn, Fails, listed}
 use Rattle.site_json.proofs.Refusing.{passed_on, refused_is, Fails-built}
 use Rattle.site_json.proofs.Wholes.{Fails-mode, Fails-lists, Fails-end, Gives-all}
 use Rattle.site_json.proofs.site_of.Goals as goal
@@ -25,13 +25,13 @@ pub returns-in-Ok-build-clause-site : goal.returns-in-Ok-build-clause-site
 returns-in-Ok-build-clause-site c =
     let d = view c.args.tree.now in
     let f = c.add_lists.new.builder in
-    let leads = subst (λ (b : Draft). Leads b 2 (listed c.in-Ok.version d) f c.in_ok-placed.placed) c.in-Ok-new.ensures c.in_ok-placed.ensures.leads in
+    let leads = subst (λ (b : Draft). LeadsOn b 2 (listed c.in-Ok.version d) f c.in_ok-placed.placed) c.in-Ok-new.ensures c.in_ok-placed.ensures.leads in
     Gives-all d c.in-Ok.version c.in-Some.mode f c.in_ok-placed.placed c.in-Ok-build.site c.in-Ok.ensures.item c.in-Ok.ensures.latest (sym c.mode_of.ensures ∙ c.in-Some.is) leads c.in_ok-placed.ensures.takes c.in-Ok-build.ensures.good c.in-Ok-build.ensures.site
 
 pub returns-in-Err-build-clause-refused : goal.returns-in-Err-build-clause-refused
 returns-in-Err-build-clause-refused c = λ code place broken e.
     let d = view c.args.tree.now in
     let f = c.add_lists.new.builder in
-    let leads = subst (λ (b : Draft). Leads b 2 (listed c.in-Ok.version d) f c.in_ok-placed.placed) c.in-Ok-new.ensures c.in_ok-placed.ensures.leads in
+    let leads = subst (λ (b : Draft). LeadsOn b 2 (listed c.in-Ok.version d) f c.in_ok-placed.placed) c.in-Ok-new.ensures c.in_ok-placed.ensures.leads in
     Fails-end d c.in-Ok.version c.in-Some.mode f c.in_ok-placed.placed code place broken c.in-Ok.ensures.item c.in-Ok.ensures.latest (sym c.mode_of.ensures ∙ c.in-Some.is) leads
     (Fails-built f c.in_ok-placed.placed TheEnd c.in-Err-build.fault c.fault_at.result code place broken c.in-Err-build.ensures.refused c.fault_at.ensures e)

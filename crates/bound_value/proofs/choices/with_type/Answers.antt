@@ -4,7 +4,7 @@ use Rattle.std.proofs.lemmas.Int.{to_z-of_z}
 use Rattle.cable_definitions.specs.declared.site.CableType.{CableType}
 use Rattle.cable_definitions.specs.Arcs.{capacity_from}
 use Rattle.site_model.proofs.Costs.{type_is}
-use Rattle.bound_value.specs.Least.{IsLeastOfType, IsLeastOfTypes, lesser}
+use Rattle.bound_value.specs.Least.{IsLeastOfType, IsLeastOfTypes, lesser_left}
 use Rattle.bound_value.proofs.LeastUses.{type_unborne, type_more}
 use Rattle.bound_value.proofs.choices.with_type.Goals as goal
 
@@ -32,5 +32,5 @@ returns c =
     let own = subst (λ (z : ℤ). IsLeastOfType s a u z c.args.grade left) (to_z-of_z w128 w c.ranges.on_load)
     (subst (λ (z : ℤ). IsLeastOfType s a z (to_z w128 (of_z w128 w)) c.args.grade left) (to_z-of_z w128 u c.ranges.on_use) c.least_of_type-left.ensures) in
     let read = to_z-of_z w128 c.lesser.result (record { sfits = c.lesser.type_inv })
-    ∙ (c.lesser.ensures ∙ ap (lesser c.args.least) (to_z-of_z w128 left (record { sfits = c.least_of_type-left.type_inv }))) in
+    ∙ (c.lesser.ensures ∙ ap (lesser_left c.args.least) (to_z-of_z w128 left (record { sfits = c.least_of_type-left.type_inv }))) in
     subst (IsLeastOfTypes s a u w (c.args.grade + 1)) (sym read) (type_more s a u w c.args.grade c.args.least left own c.requires.least)

@@ -5,7 +5,7 @@ use Rattle.cable_definitions.specs.Tree.{Node, worked, node_of}
 use Rattle.branch_tree.specs.declared.node.TreeNode.{TreeNode}
 use Rattle.branch_tree.specs.declared.node.NodeStatus.{NodeStatus}
 use Rattle.branch_tree.specs.Nodes.{as_node, as_status}
-use Rattle.branch_tree.specs.State.{status_of}
+use Rattle.branch_tree.specs.State.{status_after}
 use Rattle.branch_tree.proofs.Kept.{worked_at, nodes_after-no_split, nodes_after-split}
 use Rattle.branch_tree.proofs.node.do_act.Goals as goal
 
@@ -15,8 +15,8 @@ after old bound status = record { parent = old.parent; arc = old.arc; mark = old
 
 -- the list after the work
 after_work : (xs ys : List TreeNode) (v : ℕ) (old : TreeNode) (status : NodeStatus) (n : Node) (act : Act) (bound : ℕ) → ys ≡ xs → 1 ≤ v
-    → slice_get (map as_node ys) (v - 1) ≡ Some (as_node old) → as_status status ≡ status_of act → node_of (map as_node xs) v ≡ Some n
-    → map as_node (slice_set xs (v - 1) (after old bound status)) ≡ slice_set (map as_node xs) (v - 1) (worked n bound (status_of act))
+    → slice_get (map as_node ys) (v - 1) ≡ Some (as_node old) → as_status status ≡ status_after act → node_of (map as_node xs) v ≡ Some n
+    → map as_node (slice_set xs (v - 1) (after old bound status)) ≡ slice_set (map as_node xs) (v - 1) (worked n bound (status_after act))
 after_work xs ys v old status n act bound q h e s f =
     worked_at xs v old (after old bound status) n act bound h (ap (λ (zs : List TreeNode). slice_get (map as_node zs) (v - 1)) (sym q) ∙ e) (ap (λ t. worked (as_node old) bound t) s) f
 

@@ -5,13 +5,13 @@ use Rattle.cable_definitions.specs.declared.row.Mark.{Mark}
 use Rattle.cable_definitions.specs.declared.row.Mark.TheVariants.{Free}
 use Rattle.cable_definitions.specs.Choice.{AtMost, AtLeast, IsExtreme}
 use Rattle.cable_definitions.specs.Tree.{counted}
-use Rattle.node_reasons.specs.Extents.{IsWithin}
+use Rattle.node_reasons.specs.Extents.{IsUpTo}
 use Rattle.node_reasons.proofs.RowExtents.{back, wider, extreme_of_free}
 use Rattle.node_reasons.proofs.rows.extent_of_arc.Goals as goal
 
 -- what is kept of a small number or of none is small
-small_of : (used z : ℤ) (P Q : Type 0) → IsWithin 2000000 used → ((z ≡ used) × P) ⊎ ((z ≡ pos 0) × Q) → IsWithin 2000000 z
-small_of used z P Q h (inl (e, p)) = subst (IsWithin 2000000) (sym e) h
+small_of : (used z : ℤ) (P Q : Type 0) → IsUpTo 2000000 used → ((z ≡ used) × P) ⊎ ((z ≡ pos 0) × Q) → IsUpTo 2000000 z
+small_of used z P Q h (inl (e, p)) = subst (IsUpTo 2000000) (sym e) h
 small_of used z P Q h (inr (e, q)) = record { below = omega (arith, ints, e); above = omega (arith, ints, e) }
 
 pub returns-clause-least : goal.returns-clause-least

@@ -5,13 +5,13 @@ use Rattle.cable_definitions.specs.Choice.{AtMost, AtLeast, IsSumOfExtremes}
 use Rattle.cable_definitions.specs.Tree.{counted}
 use Rattle.proof_laws.proofs.Lists.{some_at}
 use Rattle.proof_laws.proofs.Extremes.{sum_more, sum_all}
-use Rattle.node_reasons.specs.Extents.{IsWithin}
+use Rattle.node_reasons.specs.Extents.{IsUpTo}
 use Rattle.node_reasons.proofs.RowExtents.{back, wider}
 use Rattle.node_reasons.proofs.rows.extent_of_row.Goals as goal
 
 -- the sum of two small numbers as the program adds them
-added : (n : ℕ) (x y : ℤ) → n < 65280 → IsWithin (2000000 * n) x → IsWithin 2000000 y
-    → (to_z w64 (of_z w64 (to_z w64 (of_z w64 x) +ℤ to_z w64 (of_z w64 y))) ≡ x +ℤ y) × IsWithin (2000000 * (n + 1)) (x +ℤ y)
+added : (n : ℕ) (x y : ℤ) → n < 65280 → IsUpTo (2000000 * n) x → IsUpTo 2000000 y
+    → (to_z w64 (of_z w64 (to_z w64 (of_z w64 x) +ℤ to_z w64 (of_z w64 y))) ≡ x +ℤ y) × IsUpTo (2000000 * (n + 1)) (x +ℤ y)
 added n x y l a b =
     let xa = a.below in
     let xb = a.above in
@@ -48,8 +48,8 @@ loop-arc-preserved c =
           subst (IsSumOfExtremes AtLeast c.args.site.now (take (c.loop-arc.arc + 1) c.args.arcs.now) (take (c.loop-arc.arc + 1) c.args.decisions.now) (counted r)) (sym high.0)
           (sum_more AtLeast c.args.site.now (counted r) c.loop-arc.arc c.args.arcs.now c.args.decisions.now a.0 c.mark.result c.loop-arc.sum.greatest c.extent_of_arc-one.result.greatest a.1 c.mark.ensures
           (c.loop-arc.invariant.greatest r e) (c.extent_of_arc-one.ensures.greatest r a.0 e a.1));
-      least_small = subst (IsWithin (2000000 * (c.loop-arc.arc + 1))) (sym low.0) low.1;
-      greatest_small = subst (IsWithin (2000000 * (c.loop-arc.arc + 1))) (sym high.0) high.1;
+      least_small = subst (IsUpTo (2000000 * (c.loop-arc.arc + 1))) (sym low.0) low.1;
+      greatest_small = subst (IsUpTo (2000000 * (c.loop-arc.arc + 1))) (sym high.0) high.1;
     }
 
 pub returns : goal.returns

@@ -1,5 +1,5 @@
 use Rattle.std.proofs.Common.{◌+◌, arith, rules, sym, subst}
-use Rattle.node_reasons.specs.Used.{UsedList, AreUsedBelow, IsNext}
+use Rattle.node_reasons.specs.Used.{UsedList, AreUsedBelow, IsNextStart}
 use Rattle.node_reasons.proofs.Gathering.{unused_step, twins_step, push_step, next_step, starts_within}
 use Rattle.node_reasons.proofs.used.gather.Goals as goal
 
@@ -33,5 +33,5 @@ returns-clause-used c =
 pub returns-clause-next : goal.returns-clause-next
 returns-clause-next c =
     let w = starts_within c.args.site.now c.args.arcs.now c.args.number c.get-arc.result c.points-valid.ensures.valid c.requires.arcs c.get-arc.ensures in
-    subst (λ (used : UsedList). IsNext c.args.arcs.now c.args.decisions.now (c.args.number + 1) used c.args.number (c.get-arc.result.from + 1)) (sym c.push.ensures)
+    subst (λ (used : UsedList). IsNextStart c.args.arcs.now c.args.decisions.now (c.args.number + 1) used c.args.number (c.get-arc.result.from + 1)) (sym c.push.ensures)
     (next_step c.args.site.now c.args.arcs.now c.args.decisions.now c.args.number c.get-arc.result c.args.used.now c.args.latest.last c.args.latest.next c.requires.arcs c.get-arc.ensures c.in-Used.ensures c.if-arc-latest.false (omega (arith, c.points-valid.ensures.valid.points_count)) c.requires.next)

@@ -1,14 +1,14 @@
 use Rattle.std.proofs.Common.{◌≡◌, ◌≤◌, ◌+◌, length, None}
 use Rattle.cable_text.specs.Lines.{ahead}
 use Rattle.proof_text.specs.Items.{ReadsWeights}
-use Rattle.proof_text.specs.Reading.{counted}
+use Rattle.proof_text.specs.Reading.{line_number_after}
 use Rattle.proof_text.proofs.items.read_weights.Given as goal
 
 abbrev pub invariant-loop : goal.invariant-loop
 invariant-loop g l = record {
   reads : ReadsWeights (ahead l.initial.lines.pending (g.S.Source.left l.initial.src)) (ahead l.lines.pending (g.S.Source.left l.src)) l.weights;
   size : length l.weights ≡ l.counter;
-  lines : counted l.lines.lines 1 ≡ counted l.initial.lines.lines (l.counter + 1);
+  lines : line_number_after l.lines.lines 1 ≡ line_number_after l.initial.lines.lines (l.counter + 1);
   none_kept : l.lines.kept ≡ None;
   faults : g.S.Source.faults l.initial.src ≤ g.S.Source.faults l.src;
 }

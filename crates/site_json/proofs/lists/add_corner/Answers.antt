@@ -7,7 +7,7 @@ use Rattle.site_model.specs.declared.fault.BuildFault.{BuildFault}
 use Rattle.site_model.specs.declared.fault.BuildFault.TheVariants.{Refused as RefusedItem}
 use Rattle.site_model.proofs.Ranges.{passed_two}
 use Rattle.site_json.specs.Tree.{corner_of}
-use Rattle.site_json.specs.Faults.{Leads}
+use Rattle.site_json.specs.Faults.{LeadsOn}
 use Rattle.site_json.proofs.Leading.{Leads-one}
 use Rattle.site_json.proofs.Steps.{stands_corner, TakesCorners-more, TakesCorners-same}
 use Rattle.site_json.proofs.Refusing.{Fails-shape, Fails-built}
@@ -26,7 +26,7 @@ returns-in-Ok-clause-leads c =
     let found = c.in-Some.found in
     let good = passed_two (λ u v. IsGood d (ACorner (Some u) (Some v))) found.x found.y (search rules) (search rules) c.in-Ok.ensures.good in
     let adds = passed_two (λ u v. Adds d (ACorner (Some u) (Some v)) c.add_corner.new.self) found.x found.y (search rules) (search rules) c.in-Ok.ensures.adds in
-    subst (λ (i : RawItem). Leads d c.args.before (i ∷ []) c.add_corner.new.self (c.args.before + 1)) (sym c.in-Some.ensures) (Leads-one d c.add_corner.new.self c.args.before (ACorner (Some found.x) (Some found.y)) good adds)
+    subst (λ (i : RawItem). LeadsOn d c.args.before (i ∷ []) c.add_corner.new.self (c.args.before + 1)) (sym c.in-Some.ensures) (Leads-one d c.add_corner.new.self c.args.before (ACorner (Some found.x) (Some found.y)) good adds)
 
 pub returns-in-Ok-clause-takes : goal.returns-in-Ok-clause-takes
 returns-in-Ok-clause-takes c =

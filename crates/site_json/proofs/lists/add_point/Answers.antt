@@ -7,7 +7,7 @@ use Rattle.site_model.specs.declared.fault.BuildFault.TheVariants.{Refused as Re
 use Rattle.site_model.specs.Building.{point_item}
 use Rattle.site_model.proofs.Ranges.{passed_two}
 use Rattle.site_json.specs.Tree.{raw_point}
-use Rattle.site_json.specs.Faults.{Leads}
+use Rattle.site_json.specs.Faults.{LeadsOn}
 use Rattle.site_json.proofs.Leading.{Leads-one}
 use Rattle.site_json.proofs.Steps.{stands_point, TakesUpTo-point}
 use Rattle.site_json.proofs.Refusing.{Fails-shape, Fails-built}
@@ -40,4 +40,4 @@ returns-in-Ok-clause-leads c =
     let adds = passed_two (λ u v. Adds d (point_item name u v found.kind) c.add_point.new.self) found.x found.y (search rules) (search rules) c.in-Ok.ensures.adds in
     let same : point_item name found.x found.y found.kind ≡ raw_point (view c.args.member.now) =
     ap (λ (n : List ℕ). point_item n found.x found.y found.kind) c.as_bytes.ensures.value ∙ sym c.in-Some.ensures in
-    subst (λ (i : RawItem). Leads d c.args.before (i ∷ []) c.add_point.new.self (c.args.before + 1)) same (Leads-one d c.add_point.new.self c.args.before (point_item name found.x found.y found.kind) good adds)
+    subst (λ (i : RawItem). LeadsOn d c.args.before (i ∷ []) c.add_point.new.self (c.args.before + 1)) same (Leads-one d c.add_point.new.self c.args.before (point_item name found.x found.y found.kind) good adds)

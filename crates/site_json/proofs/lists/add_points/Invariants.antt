@@ -1,12 +1,12 @@
 use Rattle.std.proofs.Common.{map, take}
 use Rattle.serde_json.specs.View.{view}
 use Rattle.site_json.specs.Tree.{raw_points}
-use Rattle.site_json.specs.Faults.{Leads}
+use Rattle.site_json.specs.Faults.{LeadsOn}
 use Rattle.site_json.specs.Progress.{TakesUpTo}
 use Rattle.site_json.proofs.lists.add_points.Given as goal
 
 abbrev pub invariant-loop-member : goal.invariant-loop-member
 invariant-loop-member l = record {
-  leads : Leads l.initial.builder l.before (raw_points (map view (take l.member-index l.points))) l.builder l.placed;
+  leads : LeadsOn l.initial.builder l.before (raw_points (map view (take l.member-index l.points))) l.builder l.placed;
   takes : TakesUpTo 3 l.builder l.placed;
 }

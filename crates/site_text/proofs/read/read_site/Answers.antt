@@ -5,7 +5,7 @@ use Rattle.cable_definitions.specs.declared.site.Version.{Version}
 use Rattle.cable_definitions.specs.Items.{Draft, TheEnd, empty_draft}
 use Rattle.cable_text.specs.Lines.{ahead}
 use Rattle.site_model.specs.declared.fault.SiteFault.TheVariants.{Refused}
-use Rattle.site_text.specs.Reading.{versioned, begun, ReadsLineOf}
+use Rattle.site_text.specs.Reading.{versioned, begun, ReadsItemLine}
 use Rattle.site_text.proofs.Running.{HasRead, ReadsSite, nothing_read, one_more, fewer_left, of_read, finished, read_fault, end_fault}
 use Rattle.site_text.proofs.Counting.{behind_mode}
 use Rattle.site_text.proofs.read.read_site.Given.{Over}
@@ -86,9 +86,9 @@ items-preserved g c =
     }
 
 -- the line of the end
-end_line : (g : Over) (c : After-finish g) → ReadsLineOf c.items.builder.site.version TheEnd (ahead c.items.lines.pending (g.S.Source.left c.items.src)) (ahead c.read_item.new.lines.pending (g.S.Source.left c.read_item.new.src)) c.items.lines.lines c.read_item.new.lines.lines
+end_line : (g : Over) (c : After-finish g) → ReadsItemLine c.items.builder.site.version TheEnd (ahead c.items.lines.pending (g.S.Source.left c.items.src)) (ahead c.read_item.new.lines.pending (g.S.Source.left c.read_item.new.src)) c.items.lines.lines c.read_item.new.lines.lines
 end_line g c =
-    let P = λ (v : Version). ReadsLineOf v TheEnd (ahead c.items.lines.pending (g.S.Source.left c.items.src)) (ahead c.read_item.new.lines.pending (g.S.Source.left c.read_item.new.src)) c.items.lines.lines c.read_item.new.lines.lines in
+    let P = λ (v : Version). ReadsItemLine v TheEnd (ahead c.items.lines.pending (g.S.Source.left c.items.src)) (ahead c.read_item.new.lines.pending (g.S.Source.left c.read_item.new.src)) c.items.lines.lines c.read_item.new.lines.lines in
     subst P c.items.invariant.version (c.in_ok-read_item.ensures.ended (ap Ok c.in-Ended.is))
 
 -- what holds of a site that was read

@@ -6,11 +6,11 @@ use Rattle.cable_definitions.specs.Part.{IsStraight}
 use Rattle.layout_laws.proofs.Straightest.{one_straight}
 use Rattle.start_layout.specs.declared.starting.Start.{Start}
 use Rattle.start_layout.specs.declared.starting.Start.TheVariants.{Found, Stuck}
-use Rattle.start_layout.specs.Starting.{IsWithin}
+use Rattle.start_layout.specs.Starting.{IsFoundWithin}
 use Rattle.start_layout.proofs.starting.greedy.Goals as goal
 
 -- the layout that was found
-found : (most : ℕ) (start : Start) → IsWithin most start → (layout : List Cable) × (price : ℕ) × (start ≡ Found layout price) × (price ≤ most)
+found : (most : ℕ) (start : Start) → IsFoundWithin most start → (layout : List Cable) × (price : ℕ) × (start ≡ Found layout price) × (price ≤ most)
 found most (Found layout price) h = (layout, price, refl, h)
 found most (Stuck part turbine) h = absurd h
 
@@ -25,4 +25,4 @@ returns-in-Some-clause-straight c straight h legal =
     let made = subst (λ (o : Option (List Cable)). IfSome o (IsStraight s)) c.in-Some.is c.in_ok-straight_layout.ensures.some in
     let same = one_straight s c.in-Some.straight straight made h in
     found (cost s straight) c.cheaper.result
-    (subst (λ (xs : List Cable). IsLegal s xs → IsWithin (cost s xs) c.cheaper.result) same c.cheaper.ensures.within legal)
+    (subst (λ (xs : List Cable). IsLegal s xs → IsFoundWithin (cost s xs) c.cheaper.result) same c.cheaper.ensures.within legal)

@@ -1,5 +1,5 @@
-use Rattle.start_layout.specs.Straight.{IsBestBelow}
+use Rattle.start_layout.specs.Straight.{IsBestWayBelow}
 use Rattle.start_layout.proofs.straight.straight_cable.Given as goal
 
 abbrev pub invariant-loop-to : goal.invariant-loop-to
-invariant-loop-to l = IsBestBelow l.site l.from l.to l.best
+invariant-loop-to l = IsBestWayBelow l.site l.from l.to l.best

@@ -6,7 +6,7 @@ use Rattle.cable_definitions.specs.declared.claim.Refusal.{Refusal}
 use Rattle.proof_laws.proofs.Sound.{sound-accepted, says-sound}
 use Rattle.document_laws.proofs.Accepted.{claim-stands}
 use Rattle.proof_checker.specs.State.{CheckerState, kept_from, Refuses}
-use Rattle.proof_checker.specs.Answers.{IsBoundOf}
+use Rattle.proof_checker.specs.Answers.{IsClosingBound}
 use Rattle.proof_checker.proofs.Keeping.{refuses}
 use Rattle.proof_checker.proofs.checker.Checker.close.Goals as goal
 
@@ -15,7 +15,7 @@ returns-in-Ok-clause-agrees c =
     subst (λ (state : CheckerState). Agrees state.site state.budget state.kept c.args.layout.now c.args.claim) c.self.view_is (c.in-Ok.ensures.agrees c.self.inside.pool)
 
 pub returns-in-Ok-clause-bound : goal.returns-in-Ok-clause-bound
-returns-in-Ok-clause-bound c = subst (λ (state : CheckerState). IsBoundOf state.kept c.in-Ok.bound) c.self.view_is (c.in-Ok.ensures.bound c.self.inside.pool)
+returns-in-Ok-clause-bound c = subst (λ (state : CheckerState). IsClosingBound state.kept c.in-Ok.bound) c.self.view_is (c.in-Ok.ensures.bound c.self.inside.pool)
 
 pub returns-in-Ok-clause-says : goal.returns-in-Ok-clause-says
 returns-in-Ok-clause-says c =
