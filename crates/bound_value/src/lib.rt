@@ -7,6 +7,7 @@ mod greatest;
 mod lawfulness;
 mod value;
 mod weights;
+mod work;
 
 pub use cable_definitions::row::Mark;
 pub use choices::least_choice;
@@ -15,6 +16,7 @@ pub use greatest::ceiling;
 pub use lawfulness::lawful;
 pub use value::{rounded_bound, weigh};
 pub use weights::{Weights, WeightsFull};
+pub use work::Work;
 
 #[cfg(test)]
 mod tests;

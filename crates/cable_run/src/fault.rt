@@ -3,8 +3,7 @@
 ghost use Rattle.std.specs.Prelude.{◌≡◌};
 ghost use Rattle.cable_run.specs.Faults.{site_fault, line_fault, document_fault, fault_in_document};
 
-use branch_tree::Refusal;
-use cable_definitions::claim::Cause;
+use cable_definitions::claim::{Cause, Refusal};
 use document_check::DocumentFault;
 use proof_text::ItemFault;
 use site_model::{SiteCode, SiteFault};

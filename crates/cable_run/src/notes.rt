@@ -7,7 +7,7 @@ ghost use Rattle.run_definitions.specs.Effect.{effect, Noted, NoteFailed};
 ghost use Rattle.cable_run.specs.Noted.{IsNoted, EndsAs};
 
 use crate::fault::Fault;
-use branch_tree::Refusal;
+use cable_definitions::claim::Refusal;
 use cable_text::{Failed, Sink};
 use run_definitions::ending::Ending;
 use site_model::SiteCode;

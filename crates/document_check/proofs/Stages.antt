@@ -18,8 +18,8 @@ use Rattle.cable_definitions.specs.Text.{line, cable_line, claim_line}
 use Rattle.cable_definitions.specs.Tree.{Item, RowItem, WorkItem, ProofState, empty_state, Accepts, Agrees}
 use Rattle.cable_definitions.specs.Built.{IsBuiltItem, IsBuiltClaim}
 use Rattle.cable_definitions.specs.Refusal.{BudgetLine, LayoutLine, EndLine, RawClaim, ClaimLine, AtBudget, AtItem, AtCables, AtLast, Past, Reader, reader_at, IsRowRefused, IsWorkRefused, IsClaimOf, IsClaimRefused}
-use Rattle.branch_tree.specs.declared.work.Refusal.{Refusal}
-use Rattle.branch_tree.specs.declared.work.Work.{Work}
+use Rattle.cable_definitions.specs.declared.claim.Refusal.{Refusal}
+use Rattle.bound_value.specs.declared.work.Work.{Work}
 use Rattle.cable_text.specs.Stream.{GivesFront, IsAtEnd}
 use Rattle.cable_text.specs.Lines.{ahead}
 use Rattle.cable_text.specs.declared.fault.LineFault.{LineFault}

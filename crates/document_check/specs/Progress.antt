@@ -9,7 +9,7 @@ use Rattle.cable_definitions.specs.Tree.{Item, ProofState, IsAccepted}
 use Rattle.cable_definitions.specs.Text.{line, item_lines, cable_line}
 use Rattle.cable_definitions.specs.Built.{IsBuiltItem}
 use Rattle.cable_definitions.specs.Refusal.{DocLine, Phase, AtBudget, Reader, reader_at, ReadsLines, IsRefusedAfter}
-use Rattle.branch_tree.specs.declared.work.Refusal.{Refusal}
+use Rattle.cable_definitions.specs.declared.claim.Refusal.{Refusal}
 use Rattle.cable_text.specs.Stream.{GivesFront}
 use Rattle.proof_text.specs.Reading.{line_number_after}
 use Rattle.document_check.specs.declared.document.DocumentFault.{DocumentFault}

@@ -7,15 +7,14 @@ ghost use Rattle.cable_definitions.specs.Document.{IsClaimInRange};
 ghost use Rattle.cable_definitions.specs.Refusal.{AtBudget, AtItem, AtCables, AtLast, IsRefusedAfter};
 ghost use Rattle.cable_definitions.specs.Text.{claim_line};
 ghost use Rattle.cable_definitions.specs.Tree.{Item, Agrees};
-ghost use Rattle.branch_tree.specs.declared.work.Refusal.{Refusal as AnyRefusal};
+ghost use Rattle.cable_definitions.specs.declared.claim.Refusal.{Refusal as AnyRefusal};
 ghost use Rattle.cable_text.specs.Stream.{Rose, IsAtEnd};
 ghost use Rattle.cable_text.specs.Lines.{ahead};
 ghost use Rattle.document_check.specs.Behind.{IsAcceptedBehind};
 ghost use Rattle.document_check.specs.Feeding.{FeedsNext, FeedsToLayout, fault_from};
 ghost use Rattle.document_check.specs.Progress.{HasRead, IsRefusedFrom, ReadsOn, RefusesOn, IfRefused, IfRead, state, items_text, text_to_layout};
 
-use branch_tree::Refusal;
-use cable_definitions::claim::Claim;
+use cable_definitions::claim::{Claim, Refusal};
 use cable_text::{Lines, Source};
 use layout_meaning::Layout;
 use proof_checker::Checker;

@@ -7,7 +7,7 @@ ghost use Rattle.cable_text.specs.Stream.{Writes};
 ghost use Rattle.site_text.specs.Line.{field_text};
 ghost use Rattle.proof_lines.specs.Written.{EndsAtPoints, NamesPoint, layout_lines, spaced_number};
 
-use branch_tree::Work;
+use bound_value::Work;
 use cable_definitions::cable::Cable;
 use cable_definitions::claim::Claim;
 use cable_definitions::row::{Act, RowKind, Why};

@@ -9,7 +9,7 @@ use Rattle.cable_definitions.specs.Tree.{RowItem, WorkItem}
 use Rattle.cable_definitions.specs.Text.{line, item_lines, weight_line, act_line}
 use Rattle.cable_definitions.specs.Built.{is_built_kind, most_weights}
 use Rattle.cable_definitions.specs.Refusal.{DocLine, RowLine, WorkLine, WeightLine, ActLine, LayoutLine, RawAct, act_from, Reader, AtItem, AtWeights, AtCables}
-use Rattle.branch_tree.specs.declared.work.Work.{Work}
+use Rattle.bound_value.specs.declared.work.Work.{Work}
 use Rattle.cable_text.specs.Stream.{GivesFront}
 use Rattle.proof_text.specs.declared.fault.ItemFault.{ItemFault}
 use Rattle.proof_text.specs.declared.items.Next.{Next}

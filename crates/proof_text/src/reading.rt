@@ -15,8 +15,7 @@ use crate::fault::ItemFault;
 use crate::judging::{claim_in, end_in, layout_in};
 use crate::named::claim_named;
 use crate::words::words_of;
-use branch_tree::Refusal;
-use cable_definitions::claim::{Cause, Claim};
+use cable_definitions::claim::{Cause, Claim, Refusal};
 use cable_text::{Line, LineFault, Lines, Source};
 use site_model::Site;
 

@@ -1,6 +1,5 @@
 use super::*;
-use branch_tree::{Cause, Refusal};
-use cable_definitions::claim::Claim;
+use cable_definitions::claim::{Cause, Claim, Refusal};
 use cable_definitions::row::{Act, RowKind};
 use cable_text::{Lines, MemorySource};
 use site_model::{Mode, RawKind, Site, SiteBuilder, Version};

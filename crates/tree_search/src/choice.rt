@@ -12,9 +12,10 @@ ghost use Rattle.branch_tree.specs.State.{IsMade};
 ghost use Rattle.tree_search.specs.Chosen.{IsBeaten, IsActFor, IsNodeBound};
 
 use bound_value::{Decisions, Mark, Weights, rounded_bound, weigh};
-use branch_tree::{Act, Tree, find_dead, is_full};
+use branch_tree::{Act, Tree};
 use cable_rows::RowPool;
 use candidate_cables::Arcs;
+use node_reasons::{find_dead, is_full};
 use site_model::Site;
 use turbine_weights::weigh_turbines;
 
