@@ -87,7 +87,8 @@ any_built Infeasible = tt
 
 -- some work is done where a search has ended
 pub some-work : (s : Site) (arcs : List Arc) (n : ℕ) (p : Progress) → IsSearching s arcs n p → IsDone p → p.tree.works ≡ 0 → ⊥
-some-work s arcs n p searching (inr all) no_work = (let limit = searching.limit in let some = searching.some in omega (arith, all, no_work, limit, some))
+some-work s arcs n p searching (inr (inr h)) no_work = (let some = h.0 in omega (arith, some, no_work))
+some-work s arcs n p searching (inr (inl all)) no_work = (let limit = searching.limit in let some = searching.some in omega (arith, all, no_work, limit, some))
 some-work s arcs n p searching (inl none) no_work =
     let alone : p.tree.nodes ≡ root ∷ [] = unworked-root s arcs n searching.items empty_state (kept_of p) searching.accepted (λ e. refl) no_work in
     let count : count_by (λ w. w == 1) p.open_nodes.items ≡ unworked_count (node_of (root ∷ []) 1) = searching.are_open 1 ∙ ap (λ (nodes : List Node). unworked_count (node_of nodes 1)) alone in

@@ -3,6 +3,7 @@
 
 mod choice;
 mod finding;
+mod open;
 mod outcome;
 mod progress;
 mod rows;

@@ -1,7 +1,9 @@
 //! How far a search is, and one work of it.
 
 ghost use Rattle.std.specs.Prelude.{◌≡◌, ℕ, ◌+◌, ◌^◌, ◌≤◌, ◌<◌, [], ◌∷◌, ◌++◌, List, length, false, pos, ◌≤ℤ◌, ◌<ℤ◌, unsigned_abs, IsTrue, IfOk, OnOk, vec_capacity};
+ghost use Rattle.cable_definitions.specs.declared.cable.Arc.{Arc as AnArc};
 ghost use Rattle.cable_definitions.specs.declared.cable.Cable.{Cable};
+ghost use Rattle.cable_definitions.specs.Site.{Site as ASite};
 ghost use Rattle.cable_definitions.specs.Arcs.{AreArcs};
 ghost use Rattle.cable_definitions.specs.Layout.{cost as cost_of_all};
 ghost use Rattle.cable_definitions.specs.Tree.{IsFull, empty_state};
@@ -11,6 +13,7 @@ ghost use Rattle.tree_search.specs.Progress.{kept_of, IsFresh, IsSearching, IsDo
 
 use crate::choice::{Choice, bound_of, choose, is_beaten};
 use crate::finding::Plan;
+use crate::open::bring_first_last;
 use crate::outcome::{no_layout, part_claim, settled_plan};
 use crate::rows::list_first_rows;
 use crate::start::first_best;
@@ -206,7 +209,21 @@ impl Progress {
         Ok(true)
     }
 
-    /// Works open nodes until none is left or the budget is spent.
+    /// Brings the open node that is worked first to the end of the list, where it is taken next, and answers whether it is worked: a node whose bound
+    /// isn't below the known cost is left as it is, once node 1 was worked, and so are all others then.
+    fn aim(&mut self) -> bool
+        ensures searching { (s : ASite) (arcs : List AnArc) (n : ℕ) → IsSearching s arcs n self.old → IsSearching s arcs n self.new }
+        ensures kept { kept_of self.new ≡ kept_of self.old }
+        ensures tree { self.new.tree ≡ self.old.tree }
+        ensures spent { result ≡ false → (s : ASite) (arcs : List AnArc) (n : ℕ) → IsSearching s arcs n self.old → IsDone self.new }
+    {
+        match bring_first_last(&mut self.open_nodes, &self.tree) {
+            None => true,
+            Some(bound) => self.tree.works() == 0 || !is_beaten(self.known, bound),
+        }
+    }
+
+    /// Works open nodes, those of least bound first, until none is left that may hold a cheaper layout than the known one, or the budget is spent.
     ///
     /// # Errors
     ///
@@ -219,7 +236,7 @@ impl Progress {
         ensures searching { OnOk result ((n : ℕ) → IsSearching site.now arcs.now n self.old → IsSearching site.now arcs.now n self.new) }
         ensures spent { OnOk result (IsDone self.new) }
     {
-        while self.step(site, arcs, out)? {}
+        while self.aim() && self.step(site, arcs, out)? {}
         Ok(())
     }
 
