@@ -5,6 +5,8 @@ mod choices;
 mod decisions;
 mod greatest;
 mod lawfulness;
+mod sets;
+mod sums;
 mod value;
 mod weights;
 mod work;
