@@ -49,7 +49,7 @@ in-push rows row = (length rows + 0, append_right rows (row ∷ []) 0)
 
 -- a row that is added is an item
 pub advances-row : {E : Type 0} {r : Result (Unit {0}) E} {a b : Option (List ℕ)} {i j : ℕ} (s : Site) (arcs : List Arc) (n : ℕ) (kind : RowKind) (p m : ℕ) (old new : List Row) → IsTrue (is_built_kind kind)
-    → IsWellFormed s arcs (point_row kind p) → new ≡ old ++ point_row kind p ∷ [] → AreFew old m → m ≤ 1024 → Writes r a b i j (row_line (point_row kind p))
+    → IsWellFormed s arcs (point_row kind p) → new ≡ old ++ point_row kind p ∷ [] → AreFew old m → m ≤ 1280 → Writes r a b i j (row_line (point_row kind p))
     → Advances r s arcs n (rows_kept old) (rows_kept new) a b i j
 advances-row {E = E} {r = r} {a} {b} {i} {j} s arcs n kind p m old new built w e f most writes = record {
   items = RowItem (point_row kind p) ∷ [];

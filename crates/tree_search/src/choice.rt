@@ -6,18 +6,23 @@ ghost use Rattle.cable_definitions.specs.Arcs.{AreArcs};
 ghost use Rattle.cable_definitions.specs.Tree.{marks_of};
 ghost use Rattle.cable_definitions.specs.Row.{IsWellFormed};
 ghost use Rattle.cable_definitions.specs.Choice.{AreLawful};
-ghost use Rattle.turbine_weights.specs.Turbines.{AreTurbineWeights};
 ghost use Rattle.proof_laws.specs.Decided.{HasPointRows};
 ghost use Rattle.branch_tree.specs.State.{IsMade};
-ghost use Rattle.tree_search.specs.Chosen.{IsBeaten, IsActFor, IsNodeBound};
+ghost use Rattle.tree_search.specs.Chosen.{BeatTurbines, IsBeaten, IsActFor, IsNodeBound};
 
-use bound_value::{Decisions, Mark, Weights, rounded_bound, weigh};
+use crate::node_weights::weigh_node;
+use bound_value::{Decisions, Mark, Weights, rounded_bound};
 use branch_tree::{Act, Tree};
 use cable_rows::RowPool;
 use candidate_cables::Arcs;
 use node_reasons::{find_dead, is_full};
 use site_model::Site;
-use turbine_weights::weigh_turbines;
+use std::alloc::Global;
+
+/// How many turns improve the weights of node 1, and of another node.
+const FIRST_TURNS: u32 = 8;
+
+const TURNS: u32 = 2;
 
 /// An act on a node, and the bound that the node has after it, in cost units.
 #[derive(Clone, Copy)]
@@ -26,9 +31,10 @@ pub(crate) struct Choice {
     pub(crate) bound: i128,
 }
 
-/// Marks the arcs as a node decides them, weighs the rows of the turbines there, and answers the bound that the weights give the node, in
-/// cost units.
+/// Marks the arcs as a node decides them, weighs its rows, from the weights of the last work, and answers the bound that the weights give the node,
+/// in cost units.
 pub(crate) fn bound_of(
+    alloc: Global,
     site: &Site,
     arcs: &Arcs,
     pool: &RowPool,
@@ -46,15 +52,14 @@ pub(crate) fn bound_of(
     ensures marks_count { length decisions.new ≡ length arcs.now }
     ensures lawful { AreLawful pool.now weights.new }
     ensures few { length weights.new ≤ 1024 }
-    ensures weights { AreTurbineWeights site.now arcs.now pool.now decisions.new weights.new }
+    ensures weights { BeatTurbines site.now arcs.now pool.now decisions.new weights.new }
     ensures bound { IsNodeBound site.now arcs.now pool.now tree.now.nodes node weights.new (unsigned_abs result) }
     ensures not_negative { pos 0 ≤ℤ result }
     ensures small { result <ℤ pos (2 ^ 100) }
 {
     tree.decisions(node, decisions);
-    weigh_turbines(site, arcs, pool, decisions, weights);
-    let _few = weights.as_slice();
-    let value = weigh(site, arcs, pool, decisions, weights);
+    let turns = if node == 1 { FIRST_TURNS } else { TURNS };
+    let value = weigh_node(alloc, site, arcs, pool, decisions, turns, weights);
     rounded_bound(tree.bound(node), value)
 }
 

@@ -3,6 +3,7 @@
 
 mod choice;
 mod finding;
+mod node_weights;
 mod open;
 mod outcome;
 mod progress;

@@ -114,7 +114,7 @@ fn settle(
 }
 
 impl Progress {
-    /// A search that has worked no node yet, and knows the layout to begin with. All memory of the search is taken here.
+    /// A search that has worked no node yet, and knows the layout to begin with. Its lists have their room from here on.
     ///
     /// # Errors
     ///
@@ -155,7 +155,13 @@ impl Progress {
     /// # Errors
     ///
     /// `Failed` only where the count of `out` rose or stands at its last value; a first part of the work was appended then.
-    fn step<O: Sink>(&mut self, site: &Site, arcs: &Arcs, out: &mut O) -> Result<bool, Failed>
+    fn step<O: Sink>(
+        &mut self,
+        alloc: Global,
+        site: &Site,
+        arcs: &Arcs,
+        out: &mut O,
+    ) -> Result<bool, Failed>
         requires arcs { AreArcs site.now arcs.now }
         requires searching { (n : ℕ) × IsSearching site.now arcs.now n self.old }
         ensures advances { (n : ℕ) → IsSearching site.now arcs.now n self.old
@@ -171,6 +177,7 @@ impl Progress {
             return Ok(false);
         };
         let bound = bound_of(
+            alloc,
             site,
             arcs,
             &self.pool,
@@ -228,7 +235,13 @@ impl Progress {
     /// # Errors
     ///
     /// `Failed` only where the count of `out` rose or stands at its last value; a first part of the works was appended then.
-    fn work_all<O: Sink>(&mut self, site: &Site, arcs: &Arcs, out: &mut O) -> Result<(), Failed>
+    fn work_all<O: Sink>(
+        &mut self,
+        alloc: Global,
+        site: &Site,
+        arcs: &Arcs,
+        out: &mut O,
+    ) -> Result<(), Failed>
         requires arcs { AreArcs site.now arcs.now }
         requires searching { (n : ℕ) × IsSearching site.now arcs.now n self.old }
         ensures advances { (n : ℕ) → IsSearching site.now arcs.now n self.old
@@ -236,7 +249,7 @@ impl Progress {
         ensures searching { OnOk result ((n : ℕ) → IsSearching site.now arcs.now n self.old → IsSearching site.now arcs.now n self.new) }
         ensures spent { OnOk result (IsDone self.new) }
     {
-        while self.aim() && self.step(site, arcs, out)? {}
+        while self.aim() && self.step(alloc, site, arcs, out)? {}
         Ok(())
     }
 
@@ -247,6 +260,7 @@ impl Progress {
     /// `Failed` only where the count of `out` rose or stands at its last value; a first part of the items was appended then.
     pub(crate) fn run<O: Sink>(
         &mut self,
+        alloc: Global,
         site: &Site,
         arcs: &Arcs,
         out: &mut O,
@@ -260,7 +274,7 @@ impl Progress {
     {
         let _valid = site.points();
         list_first_rows(site, arcs, &mut self.pool, out)?;
-        self.work_all(site, arcs, out)
+        self.work_all(alloc, site, arcs, out)
     }
 
     /// What the search ends with: the cheapest layout so far, settled, and the claim that the least bound of a leaf that isn't dead allows; the part

@@ -25,7 +25,7 @@ fn list_row<O: Sink>(
 ) -> Result<(), Failed>
     requires arcs { AreArcs site.now arcs.now }
     requires built { IsTrue (is_built_kind kind) }
-    requires few { AreFew pool.old 1024 }
+    requires few { AreFew pool.old 1280 }
     ensures advances { (n : ℕ) → Advances result site.now arcs.now n (rows_kept pool.old) (rows_kept pool.new) (O.taken out.old) (O.taken out.new) (O.faults out.old) (O.faults out.new) }
     ensures few { (m : ℕ) → AreFew pool.old m → AreFew pool.new (m + 1) }
     ensures still { AreStillIn pool.old pool.new }
@@ -54,7 +54,7 @@ fn list_rows_of<O: Sink>(
 ) -> Result<(), Failed>
     requires arcs { AreArcs site.now arcs.now }
     requires built { IsTrue (is_built_kind kind) }
-    requires few { AreFew pool.old 768 }
+    requires few { AreFew pool.old 1024 }
     ensures advances { (n : ℕ) → Advances result site.now arcs.now n (rows_kept pool.old) (rows_kept pool.new) (O.taken out.old) (O.taken out.new) (O.faults out.old) (O.faults out.new) }
     ensures few { OnOk result ((m : ℕ) → AreFew pool.old m → AreFew pool.new (m + 256)) }
     ensures still { OnOk result (AreStillIn pool.old pool.new) }
@@ -67,7 +67,8 @@ fn list_rows_of<O: Sink>(
     Ok(())
 }
 
-/// Lists and writes the well-formed rows of the turbines, of the points and of the bends.
+/// Lists and writes the well-formed rows on the cables and on the loads of single points: those of the turbines, of the points, of the bends, of the
+/// loads of turbines and bends, and of the power of the substations.
 pub(crate) fn list_first_rows<O: Sink>(
     site: &Site,
     arcs: &Arcs,
@@ -81,5 +82,7 @@ pub(crate) fn list_first_rows<O: Sink>(
 {
     list_rows_of(site, arcs, pool, RowKind::Out, out)?;
     list_rows_of(site, arcs, pool, RowKind::Inlet, out)?;
-    list_rows_of(site, arcs, pool, RowKind::Bend, out)
+    list_rows_of(site, arcs, pool, RowKind::Bend, out)?;
+    list_rows_of(site, arcs, pool, RowKind::Flow, out)?;
+    list_rows_of(site, arcs, pool, RowKind::Power, out)
 }
