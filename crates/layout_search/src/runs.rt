@@ -13,8 +13,18 @@ use layout_meaning::{Cable, Layout};
 use site_model::Site;
 use std::alloc::{AllocError, Global};
 
-/// How many runs there are, each with numbers of its own.
+/// How many runs there are up to so many turbines.
 const RUNS: u64 = 3;
+
+/// How many turbines are few enough for that.
+const FEW_TURBINES: usize = 40;
+
+/// How many runs there are for more turbines: which string leads to which substation is settled early in a run, so further runs serve better than
+/// longer ones.
+const MORE_RUNS: u64 = 4;
+
+/// What the first run is drawn from.
+const FIRST_SEED: u64 = 5;
 
 /// How often the threshold falls in a run.
 const FALLS: usize = 256;
@@ -123,6 +133,15 @@ fn moves_at_once(turbines: usize) -> usize {
     (each * turbines / FALLS).max(1)
 }
 
+/// How many runs there are for so many turbines.
+fn runs_for(turbines: usize) -> u64 {
+    if turbines <= FEW_TURBINES {
+        RUNS
+    } else {
+        MORE_RUNS
+    }
+}
+
 /// Makes a run from the shortest ways.
 fn make_run(network: &Network, seed: u64, best: &mut Best) {
     if let Some(state) = first_state(network) {
@@ -174,7 +193,7 @@ fn layout_of(alloc: Global, site: &Site, best: &Best) -> Result<Option<Layout>, 
     Ok(Some(layout))
 }
 
-/// The cheapest layout that three runs of the search met, for `judge` to judge: nothing is promised of it but that its cables, of which there are
+/// The cheapest layout that some runs of the search met, for `judge` to judge: nothing is promised of it but that its cables, of which there are
 /// at most 256, name points and cable types of the site. None where no state without faults was met. It ends, and an error comes for want of
 /// memory alone.
 pub fn search_layout(alloc: Global, site: &Site, arcs: &Arcs) -> Result<Option<Layout>, AllocError>
@@ -182,8 +201,8 @@ pub fn search_layout(alloc: Global, site: &Site, arcs: &Arcs) -> Result<Option<L
 {
     let network = Network::new(alloc, site, arcs)?;
     let mut best = Best::new();
-    for seed in 1..=RUNS {
-        make_run(&network, seed, &mut best);
+    for number in 0..runs_for(network.farm.turbines().len()) {
+        make_run(&network, FIRST_SEED.wrapping_add(number), &mut best);
     }
     if best.cost.is_none() {
         return Ok(None);

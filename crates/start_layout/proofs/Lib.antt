@@ -10,3 +10,5 @@ pub mod Straightening
 pub mod Refusing
 -- what a layout costs at least where one cable ends elsewhere
 pub mod Cutting
+-- the straight layout beside an incumbent
+pub mod Comparing

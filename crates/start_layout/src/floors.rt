@@ -81,7 +81,13 @@ fn floor_at(site: &Site, cables: &[Cable], start: u32, trial: &mut Layout) -> Fl
 }
 
 /// The floor at a point, which is the known one where that is of this point; `trial` is room for cables.
-pub(crate) fn floor_of(site: &Site, cables: &[Cable], start: u32, known: Floor, trial: &mut Layout) -> Floor
+pub(crate) fn floor_of(
+    site: &Site,
+    cables: &[Cable],
+    start: u32,
+    known: Floor,
+    trial: &mut Layout,
+) -> Floor
     requires few { length cables.now ≤ 256 }
     requires range { (i : ℕ) → KeepsRange site.now cables.now i }
     requires start { start < length site.now.points }

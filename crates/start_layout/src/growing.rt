@@ -72,7 +72,11 @@ fn list_choices(
 }
 
 /// The arcs out of all turbines: the greatest saving first, then the cheapest arc; of equal ones in their order.
-pub(crate) fn all_choices(alloc: Global, site: &Site, arcs: &Arcs) -> Result<Vec<Choice>, AllocError>
+pub(crate) fn all_choices(
+    alloc: Global,
+    site: &Site,
+    arcs: &Arcs,
+) -> Result<Vec<Choice>, AllocError>
     requires { AreArcs site.now arcs.now }
 {
     let mut choices = Vec::new(alloc);

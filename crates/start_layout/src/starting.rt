@@ -1,6 +1,6 @@
 //! A layout to begin with: what was searched, the straight layout, or what is grown turbine by turbine.
 
-ghost use Rattle.std.specs.Prelude.{◌≡◌, ℕ, ◌≤◌, List, IfOk, IfSome, IfNone};
+ghost use Rattle.std.specs.Prelude.{◌≡◌, ℕ, ◌≤◌, ◌⊎◌, List, IfOk, IfSome, IfNone};
 ghost use Rattle.cable_definitions.specs.declared.cable.Cable.{Cable as ACable};
 ghost use Rattle.cable_definitions.specs.Arcs.{AreArcs};
 ghost use Rattle.cable_definitions.specs.Layout.{IsLegal, cost as cost_of_all};
@@ -46,7 +46,7 @@ pub fn greedy(alloc: Global, site: &Site, arcs: &Arcs) -> Result<Start, AllocErr
     let searched = judged(site, search_layout(alloc, site, arcs)?);
     let straight = straight_layout(alloc, site, arcs)?;
     match cheaper(site, searched, straight) {
-        None => grow(alloc, site, arcs),
+        None => Ok(grow(alloc, site, arcs)?),
         Some(incumbent) => Ok(Start::Found(incumbent.layout, incumbent.cost)),
     }
 }
@@ -57,10 +57,12 @@ fn judged(site: &Site, layout: Option<Layout>) -> Option<Incumbent>
     ensures none { IfNone result (IfSome layout (λ cables. ¬ (IsLegal site.now cables))) }
     ensures same { IfSome result (λ incumbent. IfSome layout (λ cables. incumbent.layout ≡ cables)) }
 {
-    let layout = layout?;
-    match judge(site, &layout) {
-        Verdict::Broken(rule, a, b) => None,
-        Verdict::Legal(cost) => Some(Incumbent { layout, cost }),
+    match layout {
+        None => None,
+        Some(layout) => match judge(site, &layout) {
+            Verdict::Broken(rule, a, b) => None,
+            Verdict::Legal(cost) => Some(Incumbent { layout, cost }),
+        },
     }
 }
 
