@@ -70,15 +70,16 @@ pub fn better_of(
     ensures lawful { IfOk result (AreLawful pool.now) }
     ensures worth { IfOk result (AreWorth site.now arcs.now pool.now decisions.now start.now) }
 {
+    let kept = copied(alloc, start)?;
     let before = summed_value(alloc, site, arcs, pool, decisions, start)?;
     if !lawful(pool, &found) {
-        return copied(alloc, start);
+        return Ok(kept);
     }
     let after = summed_value(alloc, site, arcs, pool, decisions, &found)?;
     if before < after {
         return Ok(found);
     }
-    copied(alloc, start)
+    Ok(kept)
 }
 
 /// Better weights of a node, from lawful ones: 64 rounds of so many steps of the volume method (Barahona and Anbil, 2000) from the start, then so many

@@ -142,7 +142,9 @@ fn set_cost(table: &mut Table, column: u32, value: i64) {
 }
 
 /// The row of a point's uses in a table; that of its loads is the next.
-fn use_row(rank: u8) -> u32 {
+fn use_row(rank: u8) -> u32
+    ensures { result ≤ 510 }
+{
     2 * u32::from(rank)
 }
 
@@ -330,16 +332,10 @@ impl Dual {
         let most = most_reduced(cables.as_slice()).max(reach);
         let bits = cut_bits(most);
         let table = self.table(alloc, &ranks, cables.as_slice(), bits, reach)?;
-        match solve(alloc, &table) {
-            Ok(
-                Answer::Optimal {
-                    multipliers,
-                    point: _,
-                },
-            ) => { Ok(self.follow(pool, &ranks, multipliers.as_slice(), bits, value)) }
-            // A table that isn't solved changes nothing.
-            _ => Ok(value),
-        }
+        let Some(multipliers) = multipliers_of(alloc, &table) else {
+            return Ok(value);
+        };
+        Ok(self.follow(pool, &ranks, multipliers.as_slice(), bits, value))
     }
 
     /// Keeps the weights moved by the first of 8, 4, 2 and 1 eighths of the multipliers that raises the value.
@@ -394,6 +390,29 @@ impl Dual {
             value = next;
         }
         Ok(())
+    }
+}
+
+/// The multipliers of a table's cheapest point; none where the table isn't solved or has no cheapest point.
+fn multipliers_of(alloc: Global, table: &Table) -> Option<FractionList> {
+    match solve(alloc, table) {
+        Ok(answer) => optimal_multipliers(answer),
+        Err(_) => None,
+    }
+}
+
+/// The multipliers of an optimal answer.
+fn optimal_multipliers(answer: Answer) -> Option<FractionList> {
+    match answer {
+        Answer::Optimal {
+            point: _point,
+            multipliers,
+        } => Some(multipliers),
+        Answer::Infeasible { ray: _ray } => None,
+        Answer::Unbounded {
+            point: _point,
+            ray: _ray,
+        } => None,
     }
 }
 

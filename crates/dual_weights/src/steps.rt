@@ -60,21 +60,21 @@ fn direction(row: &DualRow) -> i64 {
     row.gap
 }
 
-/// The sum of the squares of the directions, over 2^16, and at least 1.
+/// The sum of the squares of the directions, over 2^16.
 fn square_sum(rows: &[DualRow]) -> i128 {
     let mut sum: i128 = 0;
     for row in rows {
         let along = i128::from(direction(row));
         sum = sum.wrapping_add(along.wrapping_mul(along));
     }
-    (sum >> 16).max(1)
+    sum >> 16
 }
 
 /// The length of a step from weights of this value, in weight over 2^20 for a gap of 1.
 fn stride_of(rows: &[DualRow], best: i128, pace: i128) -> i128 {
     let reach = (best >> 4).clamp(1, 19_342_813_113_834_066_795_298_816);
     let wide = reach.wrapping_mul(pace).wrapping_mul(1_048_576);
-    let stride = wide.wrapping_div(square_sum(rows));
+    let stride = wide.wrapping_div(square_sum(rows).max(1));
     stride.clamp(0, 1_180_591_620_717_411_303_424)
 }
 

@@ -19,16 +19,17 @@ use node_reasons::{find_dead, is_full};
 use site_model::Site;
 use std::alloc::Global;
 
-/// How many turns improve the weights of node 1, and of another node.
-const FIRST_TURNS: u32 = 8;
-
-const TURNS: u32 = 2;
 
 /// An act on a node, and the bound that the node has after it, in cost units.
 #[derive(Clone, Copy)]
 pub(crate) struct Choice {
     pub(crate) act: Act,
     pub(crate) bound: i128,
+}
+
+/// How many turns improve the weights of a node: more in node 1, whose weights the others begin with.
+fn turns_of(node: u32) -> u32 {
+    if node == 1 { 8 } else { 2 }
 }
 
 /// Marks the arcs as a node decides them, weighs its rows, from the weights of the last work, and answers the bound that the weights give the node,
@@ -58,8 +59,7 @@ pub(crate) fn bound_of(
     ensures small { result <ℤ pos (2 ^ 100) }
 {
     tree.decisions(node, decisions);
-    let turns = if node == 1 { FIRST_TURNS } else { TURNS };
-    let value = weigh_node(alloc, site, arcs, pool, decisions, turns, weights);
+    let value = weigh_node(alloc, site, arcs, pool, decisions, turns_of(node), weights);
     rounded_bound(tree.bound(node), value)
 }
 
