@@ -149,7 +149,9 @@ fn use_row(rank: u8) -> u32
 }
 
 /// The least number of bits by which a cost is cut down to those of a table.
-fn cut_bits(most: i128) -> u32 {
+fn cut_bits(most: i128) -> u32
+    ensures { result ≤ 100 }
+{
     let bits = 128 - most.leading_zeros();
     bits.saturating_sub(COST_BITS).min(100)
 }
