@@ -64,7 +64,6 @@ yes_behind s middle cables claim valid h = record {
   text = refl;
   in_order = h.in_order;
   accepted = h.accepted;
-  built = h.built;
   in_range = h.in_range;
   agrees = h.agrees;
 }

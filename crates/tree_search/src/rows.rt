@@ -3,7 +3,6 @@
 ghost use Rattle.std.specs.Prelude.{◌≡◌, ℕ, ◌+◌, ◌<◌, ◌≤◌, [], length, IsTrue, OnOk};
 ghost use Rattle.cable_definitions.specs.Arcs.{AreArcs};
 ghost use Rattle.cable_definitions.specs.Row.{IsWellFormed};
-ghost use Rattle.cable_definitions.specs.Built.{is_built_kind};
 ghost use Rattle.proof_laws.specs.Decided.{HasPointRows};
 ghost use Rattle.tree_search.specs.Steps.{rows_kept, Advances};
 ghost use Rattle.tree_search.specs.PointRows.{point_row, AreFew, IsIn, AreStillIn, AreIn};
@@ -24,7 +23,6 @@ fn list_row<O: Sink>(
     out: &mut O,
 ) -> Result<(), Failed>
     requires arcs { AreArcs site.now arcs.now }
-    requires built { IsTrue (is_built_kind kind) }
     requires few { AreFew pool.old 1280 }
     ensures advances { (n : ℕ) → Advances result site.now arcs.now n (rows_kept pool.old) (rows_kept pool.new) (O.taken out.old) (O.taken out.new) (O.faults out.old) (O.faults out.new) }
     ensures few { (m : ℕ) → AreFew pool.old m → AreFew pool.new (m + 1) }
@@ -53,7 +51,6 @@ fn list_rows_of<O: Sink>(
     out: &mut O,
 ) -> Result<(), Failed>
     requires arcs { AreArcs site.now arcs.now }
-    requires built { IsTrue (is_built_kind kind) }
     requires few { AreFew pool.old 1024 }
     ensures advances { (n : ℕ) → Advances result site.now arcs.now n (rows_kept pool.old) (rows_kept pool.new) (O.taken out.old) (O.taken out.new) (O.faults out.old) (O.faults out.new) }
     ensures few { OnOk result ((m : ℕ) → AreFew pool.old m → AreFew pool.new (m + 256)) }
