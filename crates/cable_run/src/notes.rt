@@ -77,12 +77,7 @@ fn write_site_note<E: Sink>(code: SiteCode, place: u64, note: &mut E) -> Result<
     let at = Field::Number(i128::from(place));
     push_line(
         b"site",
-        &[
-            refused,
-            Field::Word(code.word()),
-            Field::Word(b"at"),
-            at,
-        ],
+        &[refused, Field::Word(code.word()), Field::Word(b"at"), at],
         note,
     )
 }

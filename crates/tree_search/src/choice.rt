@@ -19,7 +19,6 @@ use node_reasons::{find_dead, is_full};
 use site_model::Site;
 use std::alloc::Global;
 
-
 /// An act on a node, and the bound that the node has after it, in cost units.
 #[derive(Clone, Copy)]
 pub(crate) struct Choice {

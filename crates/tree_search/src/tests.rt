@@ -124,7 +124,8 @@ fn one_work(rt: HostRuntime) -> Result<(), Fail> {
 
 /// The items of a turbine 500 metres from its substation: the layout to begin with costs what the weight
 /// of node 1 proves.
-const ITEMS: &str = "row out 1\nrow inlet 0\nrow inlet 1\nrow flow 1\nrow power 0\nwork 1 1\nby 0 52428800000\nstop\n";
+const ITEMS: &str =
+    "row out 1\nrow inlet 0\nrow inlet 1\nrow flow 1\nrow power 0\nwork 1 1\nby 0 52428800000\nstop\n";
 
 #[test]
 fn one_turbine(rt: HostRuntime) -> Result<(), Fail> {

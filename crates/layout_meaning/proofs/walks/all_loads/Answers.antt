@@ -27,9 +27,9 @@ loop-point-preserved c =
       | then-power-gt0 w ↦
           let small = power_small_at s points point i c.points-points.ensures.valid c.points-points.ensures.value c.loop-point-test.true (sym c.point-item.is) in
           let added : (p : ℕ) → p < 256 → slice_index c.if-power-gt0.loads p ≡ slice_index c.loop-point.loads p + cond (passes cables p i) (power_of_kind point.kind) 0
-              = λ p h. ap (λ (loads : List ℕ). slice_index loads p) w.loads-is ∙ w.add_along.ensures p h
-                  ∙ ap (λ (t : ℕ). slice_index c.loop-point.loads p + cond (passes cables p t) c.power_of-power.result 0) before.t_is
-                  ∙ ap (λ (power : ℕ). slice_index c.loop-point.loads p + cond (passes cables p i) power 0) c.power_of-power.ensures in
+          = λ p h. ap (λ (loads : List ℕ). slice_index loads p) w.loads-is ∙ w.add_along.ensures p h
+          ∙ ap (λ (t : ℕ). slice_index c.loop-point.loads p + cond (passes cables p t) c.power_of-power.result 0) before.t_is
+          ∙ ap (λ (power : ℕ). slice_index c.loop-point.loads p + cond (passes cables p i) power 0) c.power_of-power.ensures in
           record {
             t_is = omega (arith, before.t_is);
             room = ap length w.loads-is ∙ w.add_along.array_long;

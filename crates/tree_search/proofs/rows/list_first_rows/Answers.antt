@@ -39,11 +39,11 @@ returns-clause-listed g c =
     on_ok c.list_rows_of-5.result c.list_rows_of-5.ensures.still c.list_rows_of-5.ensures.still
     (λ still _.
     let fourth : (kind : RowKind) → AreIn s arcs kind count c.list_rows_of-4.new.pool → AreIn s arcs kind count c.list_rows_of-5.new.pool =
-        λ kind. in-still s arcs kind count c.list_rows_of-4.new.pool c.list_rows_of-5.new.pool still in
+    λ kind. in-still s arcs kind count c.list_rows_of-4.new.pool c.list_rows_of-5.new.pool still in
     let third : (kind : RowKind) → AreIn s arcs kind count c.list_rows_of-3.new.pool → AreIn s arcs kind count c.list_rows_of-5.new.pool =
-        λ kind listed. fourth kind (in-still s arcs kind count c.list_rows_of-3.new.pool c.list_rows_of-4.new.pool c.in_ok-list_rows_of-4.ensures.still listed) in
+    λ kind listed. fourth kind (in-still s arcs kind count c.list_rows_of-3.new.pool c.list_rows_of-4.new.pool c.in_ok-list_rows_of-4.ensures.still listed) in
     let second : (kind : RowKind) → AreIn s arcs kind count c.list_rows_of-2.new.pool → AreIn s arcs kind count c.list_rows_of-5.new.pool =
-        λ kind listed. third kind (in-still s arcs kind count c.list_rows_of-2.new.pool c.list_rows_of-3.new.pool c.in_ok-list_rows_of-3.ensures.still listed) in
+    λ kind listed. third kind (in-still s arcs kind count c.list_rows_of-2.new.pool c.list_rows_of-3.new.pool c.in_ok-list_rows_of-3.ensures.still listed) in
     all_point_rows s arcs c.list_rows_of-5.new.pool
     (second Out (in-still s arcs Out count c.list_rows_of.new.pool c.list_rows_of-2.new.pool c.in_ok-list_rows_of-2.ensures.still c.in_ok-list_rows_of.ensures.listed))
     (second Inlet c.in_ok-list_rows_of-2.ensures.listed) (third Bend c.in_ok-list_rows_of-3.ensures.listed))
