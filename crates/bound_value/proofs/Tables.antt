@@ -236,7 +236,7 @@ table_same part rows ws i w row table e f none h =
 
 -- ---- one weight at some points
 -- a member that comes later isn't among those before it
-not_earlier : (members : List ℕ) (i : ℕ) → AllPairs (λ m n. m < n) members → i < length members → is_member (take i members) (get_or members i 0) ≡ false
+pub not_earlier : (members : List ℕ) (i : ℕ) → AllPairs (λ m n. m < n) members → i < length members → is_member (take i members) (get_or members i 0) ≡ false
 not_earlier members i h l = false_from (is_member (take i members) (get_or members i 0)) (λ t. none (list_any-place (λ m. m == get_or members i 0) (take i members) t))
   where
     none : (k : ℕ) × (m : ℕ) × (slice_get (take i members) k ≡ Some m) × ((m == get_or members i 0) ≡ true) → ⊥

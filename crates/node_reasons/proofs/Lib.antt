@@ -10,3 +10,5 @@ pub mod RowExtents
 pub mod DeadReasons
 -- the used arcs with their cheapest types, and full layouts
 pub mod FullLayouts
+-- sums of extremes over some of the arcs
+pub mod OwnSums

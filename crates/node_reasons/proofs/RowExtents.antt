@@ -33,7 +33,7 @@ times_down (pos k) a b h l = absurd (omega (arith, ints))
 times_down (negsuc k) a b h l = at_most (times (var (negsuc k)) (nat b)) (times (var (negsuc k)) (nat a)) (omega (arith, mul-le-mul_left (suc k) h))
 
 -- a number in this range is passed on as it is
-pub back : (z : ℤ) → IsUpTo 1000000000000 z → to_z w64 (of_z w64 z) ≡ z
+pub back : (z : ℤ) → IsUpTo 1000000000000000 z → to_z w64 (of_z w64 z) ≡ z
 back z h = let a = h.below in let b = h.above in to_z-of_z w64 z (omega (arith, ints, a, b))
 
 -- what the program counts a use at a load as
@@ -185,7 +185,7 @@ sum_same R anti s arcs marks f x y p q =
         λ i. here i ∷ rest i
 
 -- a small number is in the range of those that are passed on
-pub wider : (z : ℤ) → IsUpTo 2000000 z → IsUpTo 1000000000000 z
+pub wider : (z : ℤ) → IsUpTo 2000000 z → IsUpTo 1000000000000000 z
 wider z h = let a = h.below in let b = h.above in record { below = omega (arith, ints, a, b); above = omega (arith, ints, a, b) }
 
 -- ---- rows that can't be met

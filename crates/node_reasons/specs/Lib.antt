@@ -4,3 +4,5 @@ pub mod Used
 pub mod Reasons
 -- the least and the greatest that a row counts an arc as
 pub mod Extents
+-- sums of extremes over some of the arcs
+pub mod Own

@@ -4,6 +4,7 @@
 mod dead;
 mod flows;
 mod full;
+mod own;
 mod pairs;
 mod rows;
 mod used;

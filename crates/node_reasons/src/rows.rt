@@ -1,14 +1,16 @@
 //! Rows that can't be met in a node.
 
-ghost use Rattle.std.specs.Prelude.{◌≡◌, ◌≢◌, ℕ, ◌≤◌, ◌<◌, ◌*◌, ◌⊎◌, ◌↔◌, pos, ◌≤ℤ◌, IsTrue, IfSome, IfNone, length, slice_get, Some};
+ghost use Rattle.std.specs.Prelude.{◌≡◌, ◌≢◌, ℕ, ◌≤◌, ◌<◌, ◌*◌, ◌⊎◌, ◌↔◌, pos, ◌+ℤ◌, ◌≤ℤ◌, [], ◌∷◌, AllPairs, IsTrue, IfSome, IfNone, length, slice_get, Some};
 ghost use Rattle.cable_definitions.specs.declared.cable.Arc.{Arc as AnArc};
 ghost use Rattle.cable_definitions.specs.Arcs.{AreArcs, kind_of, largest_capacity as largest_capacity_of};
-ghost use Rattle.cable_definitions.specs.Row.{Row};
+ghost use Rattle.cable_definitions.specs.Row.{Row, is_member};
 ghost use Rattle.cable_definitions.specs.Choice.{IsExtreme, IsSumOfExtremes, AtMost, AtLeast, least_load as least_load_of};
 ghost use Rattle.cable_definitions.specs.Tree.{CannotMeet, counted};
+ghost use Rattle.node_reasons.specs.Own.{starts_in, IsSumAt};
 ghost use Rattle.node_reasons.specs.Extents.{used_value, IsExtremeUse, IsUpTo};
 
 use crate::flows::{kind_at, largest_capacity};
+use crate::own::{further_arcs, points_of};
 use bound_value::{Decisions, Mark};
 use cable_rows::RowPool;
 use candidate_cables::Arcs;
@@ -140,6 +142,132 @@ fn extent_of_arc(
     }
 }
 
+/// No arcs count as nothing.
+fn nothing() -> Extent
+    ensures least { result.least ≡ pos 0 }
+    ensures greatest { result.greatest ≡ pos 0 }
+{
+    Extent {
+        least: 0,
+        greatest: 0,
+    }
+}
+
+/// Two extents added.
+fn added(first: Extent, second: Extent) -> Extent
+    requires first_least { IsUpTo 100000000000000 first.least }
+    requires first_greatest { IsUpTo 100000000000000 first.greatest }
+    requires second_least { IsUpTo 1000000000000 second.least }
+    requires second_greatest { IsUpTo 1000000000000 second.greatest }
+    ensures least { result.least ≡ first.least +ℤ second.least }
+    ensures greatest { result.greatest ≡ first.greatest +ℤ second.greatest }
+{
+    Extent {
+        least: first.least + second.least,
+        greatest: first.greatest + second.greatest,
+    }
+}
+
+/// The extent of what a row counts the arcs out of a point as.
+fn extent_out(
+    site: &Site,
+    arcs: &Arcs,
+    pool: &RowPool,
+    decisions: &Decisions,
+    row: u32,
+    p: u32,
+    largest: u32,
+) -> Extent
+    requires arcs { AreArcs site.now arcs.now }
+    requires count { length decisions.now ≡ length arcs.now }
+    requires row { row < length pool.now }
+    requires largest { largest ≡ largest_capacity_of site.now }
+    requires small { largest ≤ 10000 }
+    ensures least { (r : Row) → slice_get pool.now row ≡ Some r → IsSumAt AtMost site.now arcs.now decisions.now (counted r) (λ a. starts_in (p ∷ []) (slice_get arcs.now a)) result.least }
+    ensures greatest { (r : Row) → slice_get pool.now row ≡ Some r → IsSumAt AtLeast site.now arcs.now decisions.now (counted r) (λ a. starts_in (p ∷ []) (slice_get arcs.now a)) result.greatest }
+    ensures least_small { IsUpTo 200000000000 result.least }
+    ensures greatest_small { IsUpTo 200000000000 result.greatest }
+{
+    let _few = arcs.len();
+    let (first, past) = arcs.out_of(p);
+    let mut sum = nothing();
+    for number in first..past {
+        let mark = decisions.mark(number);
+        sum = added(
+            sum,
+            extent_of_arc(site, arcs, pool, row, number, mark, largest),
+        );
+    }
+    sum
+}
+
+/// The extent of what a row counts the arcs out of some points as.
+fn extent_out_of(
+    site: &Site,
+    arcs: &Arcs,
+    pool: &RowPool,
+    decisions: &Decisions,
+    row: u32,
+    points: &[u32],
+    largest: u32,
+) -> Extent
+    requires arcs { AreArcs site.now arcs.now }
+    requires count { length decisions.now ≡ length arcs.now }
+    requires row { row < length pool.now }
+    requires ascending { AllPairs (λ m n. m < n) points.now }
+    requires few { length points.now ≤ 256 }
+    requires largest { largest ≡ largest_capacity_of site.now }
+    requires small { largest ≤ 10000 }
+    ensures least { (r : Row) → slice_get pool.now row ≡ Some r → IsSumAt AtMost site.now arcs.now decisions.now (counted r) (λ a. starts_in points.now (slice_get arcs.now a)) result.least }
+    ensures greatest { (r : Row) → slice_get pool.now row ≡ Some r → IsSumAt AtLeast site.now arcs.now decisions.now (counted r) (λ a. starts_in points.now (slice_get arcs.now a)) result.greatest }
+    ensures least_small { IsUpTo 60000000000000 result.least }
+    ensures greatest_small { IsUpTo 60000000000000 result.greatest }
+{
+    let mut sum = nothing();
+    for point in points {
+        sum = added(
+            sum,
+            extent_out(site, arcs, pool, decisions, row, *point, largest),
+        );
+    }
+    sum
+}
+
+/// The extent of what a row counts the arcs of some numbers as; a number past the arcs is that of none.
+fn extent_among(
+    site: &Site,
+    arcs: &Arcs,
+    pool: &RowPool,
+    decisions: &Decisions,
+    row: u32,
+    numbers: &[u32],
+    largest: u32,
+) -> Extent
+    requires arcs { AreArcs site.now arcs.now }
+    requires count { length decisions.now ≡ length arcs.now }
+    requires row { row < length pool.now }
+    requires ascending { AllPairs (λ m n. m < n) numbers.now }
+    requires few { length numbers.now ≤ 65280 }
+    requires largest { largest ≡ largest_capacity_of site.now }
+    requires small { largest ≤ 10000 }
+    ensures least { (r : Row) → slice_get pool.now row ≡ Some r → IsSumAt AtMost site.now arcs.now decisions.now (counted r) (λ a. is_member numbers.now a) result.least }
+    ensures greatest { (r : Row) → slice_get pool.now row ≡ Some r → IsSumAt AtLeast site.now arcs.now decisions.now (counted r) (λ a. is_member numbers.now a) result.greatest }
+    ensures least_small { IsUpTo 200000000000 result.least }
+    ensures greatest_small { IsUpTo 200000000000 result.greatest }
+{
+    let mut sum = nothing();
+    for number in numbers {
+        if *number < arcs.len() {
+            let mark = decisions.mark(*number);
+            sum = added(
+                sum,
+                extent_of_arc(site, arcs, pool, row, *number, mark, largest),
+            );
+        }
+    }
+    sum
+}
+
 /// The extent of a row's left side in the box of the decisions.
 fn extent_of_row(
     site: &Site,
@@ -153,22 +281,18 @@ fn extent_of_row(
     requires row { row < length pool.now }
     ensures least { (r : Row) → slice_get pool.now row ≡ Some r → IsSumOfExtremes AtMost site.now arcs.now decisions.now (counted r) result.least }
     ensures greatest { (r : Row) → slice_get pool.now row ≡ Some r → IsSumOfExtremes AtLeast site.now arcs.now decisions.now (counted r) result.greatest }
-    ensures least_small { IsUpTo 1000000000000 result.least }
-    ensures greatest_small { IsUpTo 1000000000000 result.greatest }
+    ensures least_small { IsUpTo 1000000000000000 result.least }
+    ensures greatest_small { IsUpTo 1000000000000000 result.greatest }
 {
+    // The points of a site come with the fact that it is valid.
+    let _points = site.points();
     let largest = largest_capacity(site);
-    let mut sum = Extent {
-        least: 0,
-        greatest: 0,
-    };
-    for arc in 0..arcs.len() {
-        let one = extent_of_arc(site, arcs, pool, row, arc, decisions.mark(arc), largest);
-        sum = Extent {
-            least: sum.least + one.least,
-            greatest: sum.greatest + one.greatest,
-        };
-    }
-    sum
+    let points = points_of(pool, row);
+    let further = further_arcs(site, arcs, pool, row);
+    added(
+        extent_out_of(site, arcs, pool, decisions, row, points, largest),
+        extent_among(site, arcs, pool, decisions, row, further, largest),
+    )
 }
 
 /// Whether a row can't be met in the box of the decisions.
