@@ -1,5 +1,5 @@
 -- What a layout costs at least where the cable out of one point ends elsewhere.
-use Rattle.std.proofs.Common.{◌≡◌, ◌≢◌, ℕ, zero, suc, ◌+◌, ◌<◌, ◌≤◌, Bool, true, false, cond, List, [], ◌∷◌, ◌++◌, length, take, slice_get, Option, Some, None, option_map, IsTrue, sum_by, inl, inr, arith, refl, sym, ap, ◌∙◌, subst}
+use Rattle.std.proofs.Common.{◌≡◌, ◌≢◌, ℕ, zero, suc, ◌+◌, ◌≤◌, Bool, true, false, cond, List, [], ◌∷◌, length, take, slice_get, Option, Some, None, option_map, IsTrue, sum_by, inl, inr, arith, refl, sym, ap, ◌∙◌, subst}
 use Rattle.std.specs.Prelude.{◌==◌, ◌||◌}
 use Rattle.std.specs.List.{list_any, enumerate_from}
 use Rattle.std.proofs.lemmas.Bool.Decides.{eqb_tells}
@@ -11,7 +11,7 @@ use Rattle.cable_definitions.specs.declared.site.Point.{Point}
 use Rattle.cable_definitions.specs.Site.{Site}
 use Rattle.cable_definitions.specs.Arcs.{Bears, power_of_kind, cost_of}
 use Rattle.cable_definitions.specs.Walk.{cable_out, walk_from, end_of_cable, walk, most_steps, passes, load}
-use Rattle.cable_definitions.specs.Layout.{IsCable, IsLegal, Starts, cost}
+use Rattle.cable_definitions.specs.Layout.{IsLegal, cost}
 use Rattle.cable_definitions.specs.Part.{end_of, AreCheapTyped}
 use Rattle.layout_laws.specs.Alike.{SameEnds}
 use Rattle.layout_laws.proofs.Alike.{cable_out-from, cable_out-place}
@@ -216,7 +216,3 @@ none_where_floor s cables f arc price bound e floor less within start typed t le
     let there : AreCheapTyped s (with_end cables f.start q) typed = subst (λ (x : ℕ). AreCheapTyped s (with_end cables x q) typed) (sym e) t in
     let low : f.load ≤ load s typed p = subst (λ (x : ℕ). f.load ≤ load s typed x) e (floor.load_below q typed there) in
     made_above s cables typed p q f.others price f.load bound above low less within t legal (same p ∙ end_moved cables p q start) (cable_out typed p) refl
-
--- nothing is a floor, whatever the point
-pub no_floor : (s : Site) (cables : List Cable) (p : ℕ) → IsFloor s cables (record { start = p; others = 0; load = 0 })
-no_floor s cables p = record { others_above = λ q typed t l. omega arith; load_below = λ q typed t. omega arith }

@@ -1,5 +1,4 @@
-use Rattle.std.proofs.Common.{◌≤◌, ℕ, arith, subst, sym}
-use Rattle.cable_definitions.specs.Arcs.{cost_of}
+use Rattle.std.proofs.Common.{arith}
 use Rattle.layout_laws.proofs.Monotone.{cheapest-le_higher}
 use Rattle.start_layout.proofs.floors.least_cost.Goals as goal
 

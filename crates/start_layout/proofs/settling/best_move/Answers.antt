@@ -3,7 +3,6 @@ use Rattle.cable_definitions.specs.declared.cable.Cable.{Cable}
 use Rattle.cable_definitions.specs.Walk.{passes}
 use Rattle.cable_definitions.specs.Layout.{Starts}
 use Rattle.start_layout.proofs.Moving.{none_more, less_more, move_after, kept_on, start_within, after_all, settled_or_best}
-use Rattle.start_layout.proofs.Cutting.{no_floor}
 use Rattle.start_layout.proofs.GoingRound.{none_where_closed}
 use Rattle.start_layout.proofs.settling.best_move.Goals as goal
 use Rattle.start_layout.proofs.settling.best_move.Goals.{then-is_open+in-Some, then-is_open+in_default, else-is_open}

@@ -1,4 +1,4 @@
-use Rattle.std.proofs.Common.{◌≤◌, ℕ, None, refl}
+use Rattle.std.proofs.Common.{◌≤◌, None, refl}
 use Rattle.start_layout.specs.Starting.{IsLegalAtMost}
 use Rattle.start_layout.proofs.Comparing.{at_straight}
 use Rattle.start_layout.proofs.starting.greedy.Goals as goal
