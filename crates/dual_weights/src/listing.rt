@@ -2,13 +2,12 @@
 
 ghost use Rattle.std.specs.Prelude.{◌≤◌, ◌^◌, ◌≡◌, length};
 
-use crate::rows::{DualRow, MOST_WEIGHT};
+use crate::rows::MOST_WEIGHT;
 use crate::steps::Dual;
 use bound_shares::Shares;
-use bound_value::{Decisions, Mark, Weights};
+use bound_value::Weights;
 use cable_definitions::row::RowKind;
 use cable_rows::RowPool;
-use std::alloc::{AllocError, Global};
 
 /// The greatest share.
 const WHOLE: i64 = 1_048_576;
