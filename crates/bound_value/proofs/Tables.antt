@@ -1,6 +1,6 @@
 -- What weights count by the ends of arcs, and by the weights on other rows.
-use Rattle.std.proofs.Common.{◌≡◌, ◌≢◌, ℕ, zero, suc, ◌+◌, ◌*◌, ◌^◌, ◌<◌, ◌≤◌, inl, inr, ℤ, pos, negsuc, neg_ℤ, ◌+ℤ◌, ◌-ℤ◌, ◌*ℤ◌, ◌≤ℤ◌, unsigned_abs, cond, Bool, true, false, List, [], ◌∷◌, length, get_or, set, take, slice_get, Option, Some, None, to_z, of_z, FitsSigned, refl, ap, sym, ◌∙◌, subst, arith}
-use Rattle.std.specs.Prelude.{AllPairs, replicate, ◌||◌, ◌==◌, IsTrue}
+use Rattle.std.proofs.Common.{◌≡◌, ◌≢◌, ℕ, zero, suc, ◌+◌, ◌*◌, ◌^◌, ◌<◌, ◌≤◌, inl, inr, ℤ, pos, negsuc, neg_ℤ, ◌+ℤ◌, ◌-ℤ◌, ◌*ℤ◌, unsigned_abs, cond, Bool, true, false, List, [], ◌∷◌, length, get_or, set, take, slice_get, Option, Some, None, to_z, of_z, refl, ap, sym, ◌∙◌, subst, arith}
+use Rattle.std.specs.Prelude.{AllPairs, replicate, ◌||◌, ◌==◌}
 use Rattle.std.specs.Int.{w64, w128}
 use Rattle.std.proofs.lemmas.Bool.Decides.{eqb_tells}
 use Rattle.std.proofs.lemmas.Int.{ints, unsigned_abs-mul, to_z-of_z}
@@ -12,7 +12,7 @@ use Rattle.cable_definitions.specs.declared.row.RowKind.{RowKind}
 use Rattle.cable_definitions.specs.declared.row.RowKind.TheVariants.{Out, Flow, Inlet, Bend, Power, One, Cut}
 use Rattle.cable_definitions.specs.Site.{Site, IsValid}
 use Rattle.cable_definitions.specs.Arcs.{IsCandidate}
-use Rattle.cable_definitions.specs.Row.{Row, is_member, one_if, on_use, on_load, is_equation}
+use Rattle.cable_definitions.specs.Row.{Row, is_member, one_if, on_use, on_load}
 use Rattle.cable_definitions.specs.Choice.{AreLawful, at_row, sum_weighted}
 use Rattle.number_laws.proofs.Ring.{var, nat, plus, times, same_value}
 use Rattle.number_laws.proofs.Sums.{sum_int-cons, sum_int-partial}

@@ -1,11 +1,11 @@
 -- What weights count by the ends of arcs, and the weights whose rows count arcs otherwise.
-use Rattle.std.specs.Prelude.{◌≡◌, ℕ, ◌+◌, ◌^◌, ◌≤◌, ◌<◌, ℤ, pos, negsuc, ◌*ℤ◌, unsigned_abs, List, length, filter, slice_get, slice_index_or, Option, Some, None, Bool, true, false, nat_lt, nat_le, cond}
+use Rattle.std.specs.Prelude.{◌≡◌, ℕ, ◌+◌, ◌^◌, ◌≤◌, ◌<◌, ℤ, pos, negsuc, ◌*ℤ◌, unsigned_abs, List, filter, slice_get, slice_index_or, Option, Some, None, Bool, true, false, nat_lt, cond}
 use Rattle.std.specs.List.{list_any}
 use Rattle.cable_definitions.specs.declared.cable.Arc.{Arc}
 use Rattle.cable_definitions.specs.declared.row.RowKind.{RowKind}
 use Rattle.cable_definitions.specs.declared.row.RowKind.TheVariants.{Out, Flow, Inlet, Bend, Power, One, Cut}
 use Rattle.cable_definitions.specs.Row.{Row, is_member, one_if}
-use Rattle.cable_definitions.specs.Choice.{AreLawful, sum_weighted}
+use Rattle.cable_definitions.specs.Choice.{sum_weighted}
 use Rattle.candidate_cables.specs.Tables.{IsFirstFrom}
 use Rattle.bound_value.specs.declared.sums.PointSums.{PointSums}
 use Rattle.bound_value.specs.declared.sums.Part.{Part}

@@ -1,5 +1,5 @@
 -- Sums of extremes over some of the arcs: none, one, those of two tests, and all that a row may count.
-use Rattle.std.proofs.Common.{◌≡◌, ◌≢◌, ℕ, zero, suc, ◌+◌, ◌-◌, ◌*◌, ◌<◌, ◌≤◌, inl, inr, ◌⊎◌, ℤ, pos, neg_ℤ, ◌+ℤ◌, ◌-ℤ◌, ◌*ℤ◌, cond, Bool, true, false, List, [], ◌∷◌, ◌++◌, length, get_or, take, slice_get, Option, Some, None, refl, ap, sym, ◌∙◌, subst, arith}
+use Rattle.std.proofs.Common.{◌≡◌, ◌≢◌, ℕ, zero, suc, ◌+◌, ◌-◌, ◌<◌, ◌≤◌, inl, inr, ◌⊎◌, ℤ, pos, neg_ℤ, ◌+ℤ◌, ◌-ℤ◌, ◌*ℤ◌, cond, Bool, true, false, List, [], ◌∷◌, length, get_or, take, slice_get, Option, Some, None, refl, ap, sym, ◌∙◌, subst, arith}
 use Rattle.std.specs.Prelude.{All, AllPairs, IsTrue, ◌||◌, ◌&&◌, ◌==◌, not, nat_lt}
 use Rattle.std.proofs.lemmas.Bool.{ltb-true, lt-ltb, cases_lt, eqb-true}
 use Rattle.std.proofs.lemmas.Bool.Decides.{eqb_tells}
@@ -18,7 +18,7 @@ use Rattle.cable_definitions.specs.Sums.{sum_int}
 use Rattle.cable_definitions.specs.Row.{Row, is_member, has_one_member, one_if, on_use, on_load}
 use Rattle.cable_definitions.specs.Choice.{Choice, NoCable, Carries, use_of, load_of, IsChoice, IsExtreme, AreExtremes, IsSumOfExtremes}
 use Rattle.cable_definitions.specs.Tree.{counted}
-use Rattle.number_laws.proofs.Ring.{var, nat, plus, times, same_value}
+use Rattle.number_laws.proofs.Ring.{nat, plus, times, same_value}
 use Rattle.number_laws.proofs.Sums.{sum_int-cons}
 use Rattle.layout_laws.proofs.Typing.{all-at}
 use Rattle.proof_laws.proofs.Decided.{arc_choice}

@@ -1,4 +1,4 @@
-use Rattle.std.proofs.Common.{◌≡◌, ℕ, ℤ, ◌+◌, ◌*◌, ◌^◌, ◌≤◌, ◌<◌, List, length, unsigned_abs, to_z, of_z, take, refl, sym, subst, ◌∙◌, arith}
+use Rattle.std.proofs.Common.{ℕ, ℤ, ◌+◌, ◌*◌, ◌^◌, ◌≤◌, List, unsigned_abs, to_z, of_z, take, refl, sym, subst, ◌∙◌, arith}
 use Rattle.std.specs.Int.{w128}
 use Rattle.cable_definitions.specs.declared.cable.Arc.{Arc}
 use Rattle.cable_definitions.specs.Arcs.{IsCandidate}

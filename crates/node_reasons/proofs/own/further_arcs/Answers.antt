@@ -1,4 +1,4 @@
-use Rattle.std.proofs.Common.{◌≡◌, ◌+◌, ◌<◌, ℕ, [], ◌∷◌, List, length, get_or, slice_get, ap, sym, ◌∙◌, subst, arith}
+use Rattle.std.proofs.Common.{◌≡◌, ◌+◌, ◌<◌, ℕ, List, length, get_or, ap, ◌∙◌, subst, arith}
 use Rattle.candidate_cables.specs.Tables.{AreNumbersInto}
 use Rattle.proof_laws.proofs.Lists.{one_element, some_at}
 use Rattle.node_reasons.proofs.OwnSums.{CountsEnds, one_end, into_further}

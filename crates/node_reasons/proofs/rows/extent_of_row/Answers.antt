@@ -2,7 +2,7 @@ use Rattle.std.proofs.Common.{arith}
 use Rattle.std.proofs.lemmas.Int.{ints}
 use Rattle.proof_laws.proofs.Lists.{some_at}
 use Rattle.cable_definitions.specs.Choice.{AtMost, AtLeast}
-use Rattle.node_reasons.proofs.OwnSums.{own_whole, within_more, within_sum}
+use Rattle.node_reasons.proofs.OwnSums.{own_whole}
 use Rattle.node_reasons.proofs.rows.extent_of_row.Goals as goal
 
 pub extent_among-requires-clause-ascending : goal.extent_among-requires-clause-ascending

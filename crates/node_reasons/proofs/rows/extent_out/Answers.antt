@@ -1,4 +1,4 @@
-use Rattle.std.proofs.Common.{◌≡◌, ℕ, ◌+◌, ◌*◌, ◌<◌, ◌≤◌, ℤ, [], ◌∷◌, length, slice_get, sym, subst, arith}
+use Rattle.std.proofs.Common.{◌+◌, ◌*◌, ℤ, [], ◌∷◌, slice_get, sym, subst, arith}
 use Rattle.cable_definitions.specs.Choice.{AtMost, AtLeast}
 use Rattle.cable_definitions.specs.Tree.{counted}
 use Rattle.node_reasons.specs.Own.{starts_in, IsSumAt, starts_below}

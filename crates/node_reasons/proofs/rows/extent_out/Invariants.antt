@@ -1,4 +1,4 @@
-use Rattle.std.proofs.Common.{◌≡◌, ◌*◌, ◌≤◌, [], ◌∷◌, length, Some, slice_get, take}
+use Rattle.std.proofs.Common.{◌≡◌, ◌*◌, ◌≤◌, [], ◌∷◌, length, Some, slice_get}
 use Rattle.cable_definitions.specs.Row.{Row}
 use Rattle.cable_definitions.specs.Choice.{AtMost, AtLeast}
 use Rattle.cable_definitions.specs.Tree.{counted}

@@ -1,9 +1,9 @@
-use Rattle.std.proofs.Common.{◌≡◌, ℕ, ◌+◌, ◌*◌, ◌<◌, ◌≤◌, ℤ, List, length, take, slice_get, sym, subst, arith}
+use Rattle.std.proofs.Common.{ℕ, ◌+◌, ◌*◌, ℤ, List, take, slice_get, sym, subst, arith}
 use Rattle.std.proofs.lemmas.List.{take_all}
 use Rattle.cable_definitions.specs.Choice.{AtMost, AtLeast}
 use Rattle.cable_definitions.specs.Tree.{counted}
 use Rattle.node_reasons.specs.Own.{starts_in, IsSumAt}
-use Rattle.node_reasons.proofs.OwnSums.{sum_none, no_starts, one_point_more, within_more, within_sum, within_nothing}
+use Rattle.node_reasons.proofs.OwnSums.{sum_none, no_starts, one_point_more, within_sum, within_nothing}
 use Rattle.node_reasons.proofs.rows.extent_out_of.Goals as goal
 
 pub loop-point-init : goal.loop-point-init
