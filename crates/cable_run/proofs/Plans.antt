@@ -116,7 +116,7 @@ begun : (input out : Effect) (s : Site) (n : ℕ) (arcs : List Arc) (items : Lis
 begun input out s n arcs items kept read are accepted part =
     let started : IsPlanBegun s n (head_text s n ++ concat (map item_lines items)) =
       record { arcs = arcs; are_arcs = are; items = items; kept = kept; accepted = accepted; text_is = refl } in
-    inr (s, (head_text s n ++ concat (map item_lines items), (read, (inl started, part))))
+    inr (s, head_text s n ++ concat (map item_lines items), read, inl started, part)
 
 -- a first part of what stands before the items
 pub head_part : (input out : Effect) (s : Site) (n : ℕ) (arcs : List Arc) → IsRead input s → AreArcs s arcs → AppendsPrefix out.before out.after (head_text s n) → PrintsPart n input out
@@ -181,7 +181,7 @@ tail_part input out middle later s n arcs cables claim least most read are first
     let parts = AppendsPrefix-then out.before later out.after (head_text s n ++ concat (map item_lines found.items)) (tail_text s cables claim)
     (Appends-then out.before middle later (head_text s n) (concat (map item_lines found.items)) first found.written) part in
     let whole = subst (λ (text : List ℕ). AppendsPrefix out.before out.after text) (sym (document_parts s n found.items cables claim)) parts in
-    inr (s, (document_text s n found.items cables claim, (read, (inr (claim, plan_found input middle later s n arcs cables claim least most read are found), whole))))
+    inr (s, document_text s n found.items cables claim, read, inr (claim, plan_found input middle later s n arcs cables claim least most read are found), whole)
 
 -- the whole text
 pub printed_whole : (input out : Effect) (middle later : Option (List ℕ)) (s : Site) (n : ℕ) (arcs : List Arc) (cables : List Cable) (claim : Claim) → 1 ≤ n → n ≤ 50000 → IsRead input s → AreArcs s arcs
