@@ -16,9 +16,8 @@ use Rattle.cable_definitions.specs.Choice.{Choice, NoCable, Carries, IsChoice, A
 use Rattle.cable_definitions.specs.Tree.{Item, RowItem, WorkItem, ProofState, empty_state, root, worked, child, WasSplit, WasFull, WasDead, IsBound, IsFull, IsListed, IsWorked, IsAccepted, is_open_leaf}
 use Rattle.cable_definitions.specs.Document.{IsAcceptedDocument}
 use Rattle.cable_definitions.specs.Built.{IsBuiltItem}
-use Rattle.cable_definitions.specs.Plan.{IsPlanned}
 use Rattle.cable_definitions.proofs.Sites.{arc, cable, two_points, only_arc, out_row}
-use Rattle.cable_definitions.proofs.Plans.{one_cable_is_legal, no_cheaper_layout}
+use Rattle.cable_definitions.proofs.Plans.{one_cable_is_legal}
 use Rattle.cable_definitions.proofs.Accepted.{two_points_are_valid, it_is_the_arc, well_formed, after_row}
 use Rattle.cable_definitions.proofs.Dead.{may_leave, dead_row}
 
@@ -192,8 +191,3 @@ document_is_accepted = record {
   in_range = omega arith;
   agrees = ((one_cable_is_legal, refl), record { reached = (1, _, omega arith, refl, (refl, refl)); least = least_bound });
 }
-
--- so it is a plan
-pub one_cable_is_planned : IsPlanned two_points 8191 (codes "site 1\nmode tree\ntype 400 100\nsubstation S 0 0 4 10000\nturbine A 300 400 100\nend site\nbudget 8191\nrow out 1\nwork 1 0\nsplit 0\nwork 2 0\nfull\nwork 3 0\ndead row 0\nlayout 1\ncable A S 0\noptimal 50000\nend document\n") (Optimal 50000)
-unfolding document_is_accepted
-one_cable_is_planned = record { document = document_is_accepted; budget_is = refl; says = no_cheaper_layout }
