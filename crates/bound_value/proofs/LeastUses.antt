@@ -1,5 +1,5 @@
 -- The least that the uses of an arc leave of their costs: load by load, type by type, and by its mark.
-use Rattle.std.proofs.Common.{◌≡◌, ℕ, suc, ◌+◌, ◌*◌, ◌^◌, ◌≤◌, ◌<◌, inl, inr, ◌⊎◌, ℤ, pos, negsuc, ◌-ℤ◌, ◌*ℤ◌, ◌≤ℤ◌, nat_abs, to_z, of_z, FitsSigned, Option, Some, None, slice_get, length, below_more, refl, ap, sym, ◌∙◌, subst, arith}
+use Rattle.std.proofs.Common.{◌≡◌, ℕ, suc, ◌+◌, ◌*◌, ◌^◌, ◌≤◌, ◌<◌, inl, inr, ◌⊎◌, ℤ, pos, negsuc, ◌-ℤ◌, ◌*ℤ◌, ◌≤ℤ◌, nat_abs, to_z, of_z, FitsSigned, List, Option, Some, None, slice_get, length, below_more, refl, ap, sym, ◌∙◌, subst, arith}
 use Rattle.std.specs.Int.{int_min, w128}
 use Rattle.std.proofs.lemmas.Nat.{mul-le}
 use Rattle.std.proofs.lemmas.Int.{ints, int_min_is, by_lt_z, to_z-of_z}
@@ -10,13 +10,15 @@ use Rattle.cable_definitions.specs.declared.site.Version.TheVariants.{One, Two}
 use Rattle.cable_definitions.specs.declared.row.Mark.{Mark}
 use Rattle.cable_definitions.specs.declared.row.Mark.TheVariants.{Free, Used}
 use Rattle.cable_definitions.specs.Site.{Site, IsValid, version_number, latest_version}
-use Rattle.cable_definitions.specs.Arcs.{IsCandidate, cost_of, cost_by, cost_from, capacity_of, capacity_from, kind_of, length_between, charge_of}
+use Rattle.cable_definitions.specs.Arcs.{AreArcs, IsCandidate, cost_of, cost_by, cost_from, capacity_of, capacity_from, kind_of, length_between, charge_of}
 use Rattle.cable_definitions.specs.Choice.{Choice, NoCable, Carries, least_load, IsChoice, IsExtreme, AtMost}
 use Rattle.number_laws.proofs.Ring.{var, nat, plus, minus, times, same_value}
 use Rattle.site_model.specs.Best.{most_cost}
 use Rattle.site_model.proofs.Costs.{type_at}
 use Rattle.site_model.proofs.Nearest.{cost_small}
+use Rattle.layout_laws.proofs.Typing.{all-at}
 use Rattle.proof_laws.proofs.Decided.{arc_choice}
+use Rattle.candidate_cables.specs.Listing.{IsArc}
 use Rattle.bound_value.specs.Least.{left_over, IsBestLoad, IsLeastOfType, IsLeastOfTypes, IsLeastOfTypesBelow, lesser_left}
 
 -- ---- a cost does not depend on the load
@@ -41,6 +43,21 @@ cost_of-same s p q grade low high v = by (slice_get s.types grade) refl
     by : (o : Option CableType) → slice_get s.types grade ≡ o → cost_from s p q o low ≡ cost_from s p q o high
     by None e = refl
     by (Some t) e = lossless (length_between (slice_get s.points p) (slice_get s.points q)) t low high (charge_of s p q) ((type_at s grade t v e).no_loss (first_version s.version v.version))
+
+-- a listed arc has its length and its charge
+pub is_arc : (s : Site) (arcs : List Arc) (n : ℕ) (a : Arc) → AreArcs s arcs → slice_get arcs n ≡ Some a → IsArc s a
+is_arc s arcs n a h e = record {
+  candidate = all-at (λ (x : Arc). IsCandidate s x.from x.to) arcs n a h.candidates e;
+  metres = all-at (λ (x : Arc). x.length ≡ length_between (slice_get s.points x.from) (slice_get s.points x.to)) arcs n a h.lengths e;
+  charged = all-at (λ (x : Arc). x.charge ≡ charge_of s x.from x.to) arcs n a h.charges e;
+}
+
+-- its cost by these
+pub cost_by_arc : (s : Site) (a : Arc) (grade load : ℕ) (t : CableType) → IsArc s a → slice_get s.types grade ≡ Some t → cost_of s a.from a.to grade load ≡ cost_by a.length t load a.charge
+cost_by_arc s a grade load t h e =
+    let metres = sym h.metres in
+    let charged = sym h.charged in
+    ap (λ (o : Option CableType). cost_from s a.from a.to o load) e ∙ (λ i. cost_by (metres i) t load (charged i))
 
 -- ---- the loads of one type
 -- the load that counts the most leaves the least of a type's cost

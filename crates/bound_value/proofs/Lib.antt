@@ -6,3 +6,9 @@ pub mod LawfulWeights
 pub mod LeastUses
 -- weighted sums, weight by weight, and how large they are
 pub mod Weighing
+-- weights that pass a test
+pub mod Listing
+-- what weights count by the ends of arcs
+pub mod Tables
+-- weights on sets that may count an arc, and what all weights count an arc as
+pub mod NearSets

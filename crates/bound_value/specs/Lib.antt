@@ -2,3 +2,5 @@
 pub mod Lawful
 -- the least that a choice leaves of its cost
 pub mod Least
+-- what weights count by the ends of arcs
+pub mod Sums

@@ -2,9 +2,10 @@
 
 ghost use Rattle.std.specs.Prelude.{◌≡◌, ◌^◌, ◌≤◌, ◌<◌, ℤ, pos, ◌-ℤ◌, ◌*◌, ◌*ℤ◌, ◌+◌, length, unsigned_abs, slice_get, Some};
 ghost use Rattle.cable_definitions.specs.declared.cable.Arc.{Arc as AnArc};
-ghost use Rattle.cable_definitions.specs.Arcs.{AreArcs, Bears, IsCandidate, kind_of};
+ghost use Rattle.cable_definitions.specs.Arcs.{AreArcs, Bears, kind_of, cost_of};
 ghost use Rattle.cable_definitions.specs.Choice.{IsExtreme, AtMost, least_load as least_load_of};
 ghost use Rattle.site_model.specs.Best.{most_cost};
+ghost use Rattle.candidate_cables.specs.Listing.{IsArc};
 ghost use Rattle.bound_value.specs.Least.{left_over, IsBestLoad, IsLeastOfType, IsLeastOfTypesBelow, lesser_left as lesser_of};
 
 use crate::Mark;
@@ -46,9 +47,23 @@ fn left_of(cost: u64, load: u32, on_use: i128, on_load: i128) -> i128
     UNITS * i128::from(cost) - on_use - on_load * i128::from(load)
 }
 
+/// What a cable of a type costs along an arc at a load.
+pub(crate) fn cost_along(site: &Site, arc: Arc, grade: u32, load: u32) -> u64
+    requires arc { IsArc site.now arc }
+    requires bears { Bears site.now grade load }
+    ensures cost { result ≡ cost_of site.now arc.from arc.to grade load }
+    ensures most { result ≤ most_cost }
+{
+    // The types of a site come with the fact that it is valid, which bounds its costs.
+    let cable_type = site.types()[grade as usize];
+    let load = u64::from(load);
+    let rate = u64::from(cable_type.price) + u64::from(cable_type.loss) * load * load;
+    u64::from(arc.length) * rate + arc.charge
+}
+
 /// The least that a use of the arc by a type leaves of its cost, over the loads from the least one up to the type's capacity.
 fn least_of_type(site: &Site, arc: Arc, grade: u32, least: u32, on_use: i128, on_load: i128) -> i128
-    requires arc { IsCandidate site.now arc.from arc.to }
+    requires arc { IsArc site.now arc }
     requires least { least ≡ least_load_of (kind_of site.now arc.from) }
     requires bears { Bears site.now grade least }
     requires on_use { unsigned_abs on_use ≤ 2 ^ 86 }
@@ -56,7 +71,7 @@ fn least_of_type(site: &Site, arc: Arc, grade: u32, least: u32, on_use: i128, on
     ensures { IsLeastOfType site.now arc on_use on_load grade result }
 {
     let load = best_load(least, site.types()[grade as usize].capacity, on_load);
-    let cost = site.arc_cost(arc.from, arc.to, grade, load);
+    let cost = cost_along(site, arc, grade, load);
     left_of(cost, load, on_use, on_load)
 }
 
@@ -80,7 +95,7 @@ fn with_type(
     on_load: i128,
     least: Option<i128>,
 ) -> Option<i128>
-    requires arc { IsCandidate site.now arc.from arc.to }
+    requires arc { IsArc site.now arc }
     requires grade { grade < length site.now.types }
     requires load { load ≡ least_load_of (kind_of site.now arc.from) }
     requires on_use { unsigned_abs on_use ≤ 2 ^ 86 }
@@ -97,7 +112,7 @@ fn with_type(
 
 /// The least that a choice which uses the arc leaves of its cost.
 fn least_used(site: &Site, arc: Arc, on_use: i128, on_load: i128) -> i128
-    requires arc { IsCandidate site.now arc.from arc.to }
+    requires arc { IsArc site.now arc }
     requires on_use { unsigned_abs on_use ≤ 2 ^ 86 }
     requires on_load { unsigned_abs on_load ≤ 2 ^ 86 }
     ensures { IsExtreme AtMost site.now arc Mark.Used (left_over site.now arc on_use on_load) result }

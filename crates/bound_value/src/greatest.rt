@@ -4,21 +4,22 @@ ghost use Rattle.std.specs.Prelude.{◌≡◌, ◌≤◌, ◌<◌, length, if◌
 ghost use Rattle.cable_definitions.specs.Arcs.{AreArcs, kind_of, is_substation as is_substation_of};
 ghost use Rattle.cable_definitions.specs.Tree.{ceiling as ceiling_of, greatest_out as greatest_cost_out, greatest_of_types as greatest_cost_of_types};
 ghost use Rattle.site_model.specs.Best.{most_cost};
+ghost use Rattle.candidate_cables.specs.Listing.{IsArc};
 
+use crate::choices::cost_along;
 use candidate_cables::{Arc, Arcs};
 use site_model::{Kind, Site};
 
 /// The greatest cost of an arc under any type, at the type's capacity as load.
 fn greatest_of_types(site: &Site, arc: Arc) -> u64
-    requires from { arc.from < length site.now.points }
-    requires to { arc.to < length site.now.points }
+    requires { IsArc site.now arc }
     ensures greatest { result ≡ greatest_cost_of_types site.now arc }
     ensures most { result ≤ most_cost }
 {
     let mut most = 0;
     for grade in 0..site.types().len() as u32 {
         let load = site.types()[grade as usize].capacity;
-        most = most.max(site.arc_cost(arc.from, arc.to, grade, load));
+        most = most.max(cost_along(site, arc, grade, load));
     }
     most
 }

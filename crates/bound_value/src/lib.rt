@@ -5,8 +5,11 @@ mod choices;
 mod decisions;
 mod greatest;
 mod lawfulness;
+mod sets;
+mod sums;
 mod value;
 mod weights;
+mod work;
 
 pub use cable_definitions::row::Mark;
 pub use choices::least_choice;
@@ -15,6 +18,7 @@ pub use greatest::ceiling;
 pub use lawfulness::lawful;
 pub use value::{rounded_bound, weigh};
 pub use weights::{Weights, WeightsFull};
+pub use work::Work;
 
 #[cfg(test)]
 mod tests;

@@ -7,20 +7,15 @@ ghost use Rattle.cable_definitions.specs.Row.{right};
 ghost use Rattle.cable_definitions.specs.Choice.{AreLawful, AtMost, IsSumOfExtremes, IsValue, reduced_cost, sum_weighted, weighted_on_use, weighted_on_load};
 ghost use Rattle.cable_definitions.specs.Tree.{IsBound};
 
+use crate::sets::{WeightList, find_near, turn_to, weights_on_sets};
+use crate::sums::{Counts, added, at_ends, point_sums};
 use crate::{Decisions, Weights, least_choice};
 use cable_rows::RowPool;
-use candidate_cables::Arcs;
+use candidate_cables::{Arc, Arcs};
 use site_model::Site;
 
 /// How many units of a weight or a value make a cost unit.
 const UNITS: u128 = 1_048_576;
-
-/// What weighted rows count a use of an arc as, and what they count each unit of its load as.
-#[derive(Clone, Copy)]
-struct Counts {
-    on_use: i128,
-    on_load: i128,
-}
 
 /// A count of a row times the row's weight.
 fn weighted(weight: i128, count: i64) -> i128
@@ -32,10 +27,17 @@ fn weighted(weight: i128, count: i64) -> i128
     weight * i128::from(count)
 }
 
-/// What the weighted rows count an arc as.
-fn weighted_counts(site: &Site, arcs: &Arcs, pool: &RowPool, weights: &Weights, arc: u32) -> Counts
+/// What rows with these weights count an arc as.
+fn weighted_counts(
+    site: &Site,
+    arcs: &Arcs,
+    pool: &RowPool,
+    weights: &[(u32, i128)],
+    arc: u32,
+) -> Counts
     requires arcs { AreArcs site.now arcs.now }
     requires lawful { AreLawful pool.now weights.now }
+    requires few { length weights.now ≤ 1024 }
     requires arc { arc < length arcs.now }
     ensures on_use { (a : AnArc) → slice_get arcs.now arc ≡ Some a → result.on_use ≡ weighted_on_use pool.now weights.now arc a }
     ensures on_load { (a : AnArc) → slice_get arcs.now arc ≡ Some a → result.on_load ≡ weighted_on_load pool.now weights.now a }
@@ -46,7 +48,7 @@ fn weighted_counts(site: &Site, arcs: &Arcs, pool: &RowPool, weights: &Weights, 
         on_use: 0,
         on_load: 0,
     };
-    for weight in weights.as_slice() {
+    for weight in weights {
         let (on_use, on_load) = pool.coefficients(site, arcs, weight.0, arc);
         sum = Counts {
             on_use: sum.on_use + weighted(weight.1, i64::from(on_use)),
@@ -83,11 +85,22 @@ fn least_choices(
     ensures sum { IsSumOfExtremes AtMost site.now arcs.now decisions.now (reduced_cost site.now pool.now weights.now) result }
     ensures small { unsigned_abs result ≤ 65280 * 10 ^ 30 }
 {
+    // The points of a site come with the fact that it is valid, so that there are at most 256.
+    let _points = site.points();
+    let sums = point_sums(pool, weights);
+    let sets = weights_on_sets(pool, weights);
+    let mut near = WeightList::new();
+    find_near(arcs, pool, &sets, 0, &mut near);
+    let mut at = 0;
     let mut sum: i128 = 0;
-    for arc in 0..arcs.len() {
-        let counts = weighted_counts(site, arcs, pool, weights, arc);
-        let mark = decisions.mark(arc);
-        sum += least_choice(site, arcs, arc, mark, counts.on_use, counts.on_load);
+    for number in 0..arcs.len() {
+        let Arc { from, to, .. } = arcs.get(number);
+        turn_to(arcs, pool, &sets, at, from, &mut near);
+        at = from;
+        let by_sets = weighted_counts(site, arcs, pool, near.as_slice(), number);
+        let counts = added(at_ends(&sums, from, to), by_sets);
+        let mark = decisions.mark(number);
+        sum += least_choice(site, arcs, number, mark, counts.on_use, counts.on_load);
     }
     sum
 }

@@ -2,9 +2,3 @@
 pub mod State
 -- the nodes that the program keeps
 pub mod Nodes
--- the arcs that a node marks used, gathered
-pub mod Used
--- reasons why a node is dead
-pub mod Reasons
--- the least and the greatest that a row counts an arc as
-pub mod Extents

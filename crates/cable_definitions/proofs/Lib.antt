@@ -16,7 +16,7 @@ pub mod Rules
 pub mod Plans
 -- sites, documents, reports, answers and notes, byte by byte
 pub mod Texts
--- how commands are spelled, and what is built of them
+-- how commands are spelled
 pub mod Words
 -- the first code of an item
 pub mod Faults

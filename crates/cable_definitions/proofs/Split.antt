@@ -15,7 +15,6 @@ use Rattle.cable_definitions.specs.Walk.{most_steps, load}
 use Rattle.cable_definitions.specs.Choice.{Choice, NoCable, Carries, IsChoice, AreLawful, reduced_cost, AtMost, IsValue}
 use Rattle.cable_definitions.specs.Tree.{Item, RowItem, WorkItem, ProofState, empty_state, root, worked, child, WasSplit, WasFull, WasDead, IsBound, IsFull, IsListed, IsWorked, IsAccepted, is_open_leaf}
 use Rattle.cable_definitions.specs.Document.{IsAcceptedDocument}
-use Rattle.cable_definitions.specs.Built.{IsBuiltItem}
 use Rattle.cable_definitions.proofs.Sites.{arc, cable, two_points, only_arc, out_row}
 use Rattle.cable_definitions.proofs.Plans.{one_cable_is_legal}
 use Rattle.cable_definitions.proofs.Accepted.{two_points_are_valid, it_is_the_arc, well_formed, after_row}
@@ -166,13 +165,6 @@ least_bound (suc zero) d l = λ t. omega arith
 least_bound (suc (suc zero)) d l = λ t. absurd (false≢true t)
 least_bound (suc (suc (suc k))) d l = absurd (omega (arith, l))
 
-built_items : All IsBuiltItem items
-built_items zero d l = refl
-built_items (suc zero) d l = omega arith
-built_items (suc (suc zero)) d l = omega arith
-built_items (suc (suc (suc zero))) d l = omega arith
-built_items (suc (suc (suc (suc k)))) d l = absurd (omega (arith, l))
-
 pub document_is_accepted : IsAcceptedDocument (codes "site 1\nmode tree\ntype 400 100\nsubstation S 0 0 4 10000\nturbine A 300 400 100\nend site\nbudget 8191\nrow out 1\nwork 1 0\nsplit 0\nwork 2 0\nfull\nwork 3 0\ndead row 0\nlayout 1\ncable A S 0\noptimal 50000\nend document\n") two_points (Optimal 50000)
 unfolding digits most_steps length_of root_bits
 document_is_accepted = record {
@@ -187,7 +179,6 @@ document_is_accepted = record {
   text = refl;
   in_order = λ i j d h l. absurd (omega (arith, h, l));
   accepted = items_are_accepted;
-  built = record { items_built = built_items; claim_built = _ };
   in_range = omega arith;
   agrees = ((one_cable_is_legal, refl), record { reached = (1, _, omega arith, refl, (refl, refl)); least = least_bound });
 }

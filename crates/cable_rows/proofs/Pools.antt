@@ -1,6 +1,6 @@
 -- The rows of a pool, and one more.
 use Rattle.std.proofs.Common.{◌≡◌, ◌≢◌, ℕ, ◌+◌, ◌-◌, ◌<◌, ◌≤◌, true, false, List, [], ◌∷◌, ◌++◌, length, get_or, take, drop, slice_get, Some, refl, ap, sym, ◌∙◌, subst, arith, ◌⊎◌, inl, inr, eq-eqb, ne_eqb, nat_cmp}
-use Rattle.std.specs.Prelude.{All, AllPairs, sum_by, slice_range, ◌==◌, Result, Ok, Err, MatchResult}
+use Rattle.std.specs.Prelude.{All, AllPairs, sum_by, slice_range, IsTrue, ◌==◌, Result, Ok, Err, MatchResult}
 use Rattle.std.specs.List.Sorted.{IsBinarySearchResult}
 use Rattle.std.proofs.lemmas.Bool.{cases_order}
 use Rattle.std.proofs.lemmas.Grind.{get_or_default_zero}
@@ -14,7 +14,7 @@ use Rattle.std.proofs.lemmas.List.Elements.{All-push, All-tail}
 use Rattle.std.proofs.lemmas.List.Sums.{sum_by_push}
 use Rattle.cable_definitions.specs.declared.row.RowKind.{RowKind}
 use Rattle.cable_definitions.specs.declared.row.RowKind.TheVariants.{One}
-use Rattle.cable_definitions.specs.Row.{Row, is_member}
+use Rattle.cable_definitions.specs.Row.{Row, is_member, has_one_member}
 use Rattle.cable_rows.specs.declared.pool.KeptRow.{KeptRow}
 use Rattle.cable_rows.specs.Pool.{members_of, row_of, pool_rows, IsKeptRow, IsPool}
 
@@ -51,6 +51,7 @@ still_kept members more kept h = record {
   size = h.size;
   table = λ n p. h.table n p ∙ ap (λ (ms : List ℕ). is_member ms p) (sym (same_members members more kept h));
   ascending = subst (AllPairs (λ m n. m < n)) (sym (same_members members more kept h)) h.ascending;
+  one = λ t. ap (length {A = ℕ}) (same_members members more kept h) ∙ h.one t;
 }
 
 -- a row that is kept past the members so far
@@ -62,6 +63,7 @@ pub record IsNext (members more : List ℕ) (kind : RowKind) (kept : KeptRow) : 
   pub size : length kept.has ≡ 256
   pub table : kind ≢ One → (p : ℕ) → get_or kept.has p false ≡ is_member more p
   pub ascending : AllPairs (λ m n. m < n) more
+  pub one : IsTrue (has_one_member kind) → length more ≡ 1
 
 -- the next row is kept
 next_kept : (members more : List ℕ) (kind : RowKind) (kept : KeptRow) → IsNext members more kind kept → IsKeptRow (members ++ more) kept
@@ -74,6 +76,7 @@ next_kept members more kind kept h =
       size = h.size;
       table = λ n p. h.table (λ f. n (h.kind_is ∙ f)) p ∙ ap (λ (ms : List ℕ). is_member ms p) (sym e);
       ascending = subst (AllPairs (λ m n. m < n)) (sym e) h.ascending;
+      one = λ t. ap (length {A = ℕ}) e ∙ h.one (subst (λ (k : RowKind). IsTrue (has_one_member k)) h.kind_is t);
     }
 
 -- a row of this kind with these members

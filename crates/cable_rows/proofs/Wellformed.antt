@@ -1,6 +1,6 @@
 -- Members of well-formed rows, and tables of them.
 use Rattle.std.proofs.Common.{◌≡◌, ◌≢◌, ℕ, zero, suc, ◌+◌, ◌-◌, ◌<◌, ◌≤◌, ◌⊎◌, inl, inr, Bool, true, false, List, [], ◌∷◌, length, get_or, set, take, slice_get, Some, refl, ap, sym, ◌∙◌, subst, arith}
-use Rattle.std.specs.Prelude.{◌==◌, ◌||◌, All, AllPairs, replicate}
+use Rattle.std.specs.Prelude.{◌==◌, ◌||◌, All, AllPairs, IsTrue, replicate}
 use Rattle.std.proofs.lemmas.Bool.{cases_order}
 use Rattle.std.proofs.lemmas.Bool.Decides.{eqb_tells}
 use Rattle.std.proofs.lemmas.List.{get_or-set_same, get_or-set_other, get_or-replicate, get_or_past, take_more, length-replicate}
@@ -10,7 +10,7 @@ use Rattle.cable_definitions.specs.declared.cable.Arc.{Arc}
 use Rattle.cable_definitions.specs.declared.row.RowKind.{RowKind}
 use Rattle.cable_definitions.specs.declared.row.RowKind.TheVariants.{Out, Flow, Inlet, Bend, Power, One, Cut}
 use Rattle.cable_definitions.specs.Site.{Site, IsValid}
-use Rattle.cable_definitions.specs.Row.{IsWellFormed, RightCount, InRange, Ascending, member_count, is_member}
+use Rattle.cable_definitions.specs.Row.{IsWellFormed, RightCount, InRange, Ascending, member_count, is_member, has_one_member}
 
 -- a row on points asks for points
 counts_points : (s : Site) (arcs : List Arc) (kind : RowKind) → kind ≢ One → member_count s arcs kind ≡ length s.points
@@ -29,6 +29,10 @@ points_below s arcs kind members v w n k d l = omega (arith, w InRange k 0 (get_
 -- a row has at most 256 members
 pub few_members : (s : Site) (arcs : List Arc) (kind : RowKind) (members : List ℕ) → IsWellFormed s arcs (record { kind = kind; members = members }) → length members ≤ 256
 few_members s arcs kind members w = (w RightCount 0 0).1
+
+-- a row of one member has one
+pub one_member : (s : Site) (arcs : List Arc) (kind : RowKind) (members : List ℕ) → IsWellFormed s arcs (record { kind = kind; members = members }) → IsTrue (has_one_member kind) → length members ≡ 1
+one_member s arcs kind members w = (w RightCount 0 0).0
 
 -- neighbours that ascend are below all that come later
 later_above : (members : List ℕ) → ((i m n : ℕ) → slice_get members i ≡ Some m → slice_get members (i + 1) ≡ Some n → m < n) → (i k : ℕ) (d : ℕ) → i + 1 + k < length members → get_or members i d < get_or members (i + 1 + k) d

@@ -1,7 +1,7 @@
 -- The rows that a pool keeps.
-use Rattle.std.specs.Prelude.{◌≡◌, ◌≢◌, ℕ, ◌+◌, ◌≤◌, ◌<◌, List, length, map, sum_by, slice_range, slice_index_or, All, AllPairs, false}
+use Rattle.std.specs.Prelude.{◌≡◌, ◌≢◌, ℕ, ◌+◌, ◌≤◌, ◌<◌, List, length, map, sum_by, slice_range, slice_index_or, All, AllPairs, IsTrue, false}
 use Rattle.cable_definitions.specs.declared.row.RowKind.TheVariants.{One}
-use Rattle.cable_definitions.specs.Row.{Row, is_member}
+use Rattle.cable_definitions.specs.Row.{Row, is_member, has_one_member}
 use Rattle.cable_rows.specs.declared.pool.KeptRow.{KeptRow}
 
 -- the members of a kept row: those of the pool from its start up to its end
@@ -16,7 +16,7 @@ row_of members kept = record { kind = kept.kind; members = members_of members ke
 abbrev pub pool_rows : List ℕ → List KeptRow → List Row
 pool_rows members rows = map (row_of members) rows
 
--- a kept row has its at most 256 members in the pool, ascending; a row on points has a table that tells them
+-- a kept row has its at most 256 members in the pool, ascending, and one alone where rows of its kind have one; a row on points has a table that tells them
 pub record IsKeptRow (members : List ℕ) (kept : KeptRow) : Type 0 where
   pub start : kept.start ≤ kept.end
   pub end : kept.end ≤ length members
@@ -24,6 +24,7 @@ pub record IsKeptRow (members : List ℕ) (kept : KeptRow) : Type 0 where
   pub size : length kept.has ≡ 256
   pub table : kept.kind ≢ One → (p : ℕ) → slice_index_or kept.has p false ≡ is_member (members_of members kept) p
   pub ascending : AllPairs (λ m n. m < n) (members_of members kept)
+  pub one : IsTrue (has_one_member kept.kind) → length (members_of members kept) ≡ 1
 
 -- a pool has at most 16,384 kept rows and 1,048,576 members, none but those of its rows, and room for as many
 pub record IsPool (rows : List KeptRow) (members : List ℕ) (rows_room members_room : ℕ) : Type 0 where

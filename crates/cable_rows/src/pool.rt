@@ -1,7 +1,7 @@
 ghost use Rattle.std.specs.Prelude.{◌≡◌, ◌≢◌, ◌+◌, ◌≤◌, ◌<◌, ◌↔◌, ℕ, List, [], ◌∷◌, ◌++◌, length, sum_by, unsigned_abs, slice_get, Some, IfOk, OnOk, OnErr, IsOk, IsTrue, All, AllPairs, slice_index_or, false};
 ghost use Rattle.cable_definitions.specs.declared.cable.Arc.{Arc as AnArc};
 ghost use Rattle.cable_definitions.specs.Arcs.{AreArcs};
-ghost use Rattle.cable_definitions.specs.Row.{Row, IsWellFormed, is_member, is_equation as is_equation_of, right as right_of, on_use, on_load};
+ghost use Rattle.cable_definitions.specs.Row.{Row, IsWellFormed, is_member, has_one_member, is_equation as is_equation_of, right as right_of, on_use, on_load};
 
 use crate::coefficients::{minus_one_if, of_ends};
 use crate::sides::right_side;
@@ -90,6 +90,7 @@ impl RowPool {
         ensures members { (r : Row) → slice_get self.now row ≡ Some r → result.now ≡ r.members }
         ensures few { length result.now ≤ 256 }
         ensures ascending { (r : Row) → slice_get self.now row ≡ Some r → AllPairs (λ m n. m < n) r.members }
+        ensures one { (r : Row) → slice_get self.now row ≡ Some r → IsTrue (has_one_member r.kind) → length r.members ≡ 1 }
     {
         let kept = &self.rows[row as usize];
         &self.members[kept.start as usize..kept.end as usize]
@@ -116,7 +117,7 @@ impl RowPool {
     }
 
     /// Whether a point is a member of a row on points.
-    fn has_point(&self, row: u32, p: u32) -> bool
+    pub fn has_point(&self, row: u32, p: u32) -> bool
         requires { row < length self.now }
         ensures { (r : Row) → slice_get self.now row ≡ Some r → r.kind ≢ RowKind.One → result ≡ is_member r.members p }
     {

@@ -18,7 +18,7 @@ use Rattle.cable_definitions.specs.Document.{IsAcceptedDocument}
 use Rattle.cable_definitions.specs.Refusal.{AtBudget, IsRefusedAfter, IsRefusedBehind}
 use Rattle.cable_definitions.specs.Report.{report_text}
 use Rattle.cable_definitions.specs.Answers.{yes_line}
-use Rattle.branch_tree.specs.declared.work.Refusal.{Refusal}
+use Rattle.cable_definitions.specs.declared.claim.Refusal.{Refusal}
 use Rattle.cable_text.specs.Stream.{GivesFront, IsAtEnd}
 use Rattle.site_text.specs.Reading.{lines_after}
 use Rattle.site_input.proofs.Forms.{behind, first_fault}
@@ -64,7 +64,6 @@ yes_behind s middle cables claim valid h = record {
   text = refl;
   in_order = h.in_order;
   accepted = h.accepted;
-  built = h.built;
   in_range = h.in_range;
   agrees = h.agrees;
 }

@@ -165,7 +165,6 @@ plan_found input middle later s n arcs cables claim least most read are found = 
     text = refl;
     in_order = found.outcome.in_order;
     accepted = found.accepted;
-    built = found.built;
     in_range = claim_in_range s arcs n found.kept cables claim read.valid found.outcome;
     agrees = found.outcome.agrees;
   };

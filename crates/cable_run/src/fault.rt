@@ -3,8 +3,7 @@
 ghost use Rattle.std.specs.Prelude.{◌≡◌};
 ghost use Rattle.cable_run.specs.Faults.{fault_in_document};
 
-use branch_tree::Refusal;
-use cable_definitions::claim::Cause;
+use cable_definitions::claim::{Cause, Refusal};
 use cable_text::Failed;
 use document_check::DocumentFault;
 use proof_text::ItemFault;

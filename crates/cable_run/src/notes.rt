@@ -7,7 +7,7 @@ ghost use Rattle.run_definitions.specs.Effect.{effect, Noted, NoteFailed};
 ghost use Rattle.cable_run.specs.Noted.{IsNoted, EndsAs};
 
 use crate::fault::Fault;
-use branch_tree::Refusal;
+use cable_definitions::claim::Refusal;
 use cable_text::{Failed, Sink};
 use run_definitions::ending::Ending;
 use site_model::SiteCode;
@@ -77,12 +77,7 @@ fn write_site_note<E: Sink>(code: SiteCode, place: u64, note: &mut E) -> Result<
     let at = Field::Number(i128::from(place));
     push_line(
         b"site",
-        &[
-            refused,
-            Field::Word(code.word()),
-            Field::Word(b"at"),
-            at,
-        ],
+        &[refused, Field::Word(code.word()), Field::Word(b"at"), at],
         note,
     )
 }

@@ -3,3 +3,4 @@ pub mod Numerals
 pub mod Reading
 pub mod Held
 pub mod Pending
+pub mod Splitting

@@ -3,3 +3,4 @@ pub mod Stream
 pub mod Number
 pub mod Memory
 pub mod Lines
+pub mod Words

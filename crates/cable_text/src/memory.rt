@@ -206,7 +206,7 @@ fn is_listed(fails: &[u64], calls: u64) -> bool
 }
 
 /// Puts bytes behind those that are used.
-fn append(storage: &mut [u8], used: usize, bytes: &[u8])
+pub(crate) fn append(storage: &mut [u8], used: usize, bytes: &[u8])
     requires { used + length bytes.now ≤ length storage.old }
     ensures { take (used + length bytes.now) storage.new ≡ take used storage.old ++ bytes.now }
 {

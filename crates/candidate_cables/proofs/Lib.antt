@@ -1,3 +1,4 @@
 pub mod Candidates
-pub mod Clashing
 pub mod Numbering
+-- for callers: the arcs of a site have the length and the charge of their pairs
+pub mod Measuring

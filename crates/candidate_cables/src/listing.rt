@@ -1,33 +1,12 @@
 //! The list of the candidate arcs.
 
-ghost use Rattle.std.specs.Prelude.{◌≡◌, ◌+◌, ◌<◌, ◌≤◌, length, IfOk, OnOk};
-ghost use Rattle.cable_definitions.specs.Arcs.{IsCandidate, AreArcs};
-ghost use Rattle.candidate_cables.specs.Listing.{IsArc, AreArcsBefore};
+ghost use Rattle.std.specs.Prelude.{◌+◌, ◌<◌, ◌≤◌, length, IfOk, OnOk};
+ghost use Rattle.cable_definitions.specs.Arcs.{AreArcs};
+ghost use Rattle.candidate_cables.specs.Listing.{AreArcsBefore};
 
 use cable_definitions::cable::Arc;
-use plane_geometry::length;
 use site_model::Site;
 use std::alloc::{AllocError, Global};
-
-/// The arc between two points that are a candidate pair, with its length and its charge.
-fn arc_between(site: &Site, from: u32, to: u32) -> Arc
-    requires from { from < length site.now.points }
-    requires to { to < length site.now.points }
-    requires candidate { IsCandidate site.now from to }
-    ensures arc { IsArc site.now result }
-    ensures start { result.from ≡ from }
-    ensures end { result.to ≡ to }
-{
-    let points = site.points();
-    let start = points[from as usize].at;
-    let end = points[to as usize].at;
-    Arc {
-        from,
-        to,
-        length: length(start, end),
-        charge: site.pair_charge(from, to),
-    }
-}
 
 /// Lists the arc between two points, where it is a candidate.
 fn list_arc(arcs: &mut Vec<Arc>, site: &Site, from: u32, to: u32) -> Result<(), AllocError>
@@ -37,7 +16,7 @@ fn list_arc(arcs: &mut Vec<Arc>, site: &Site, from: u32, to: u32) -> Result<(), 
     ensures { OnOk result (AreArcsBefore site.now from (to + 1) arcs.new.items) }
 {
     if site.is_candidate(from, to) {
-        arcs.push(arc_between(site, from, to))?;
+        arcs.push(site.arc_between(from, to))?;
     }
     Ok(())
 }

@@ -15,9 +15,8 @@ use Rattle.cable_definitions.specs.Site.{Site, IsValid}
 use Rattle.cable_definitions.specs.Row.{Row}
 use Rattle.cable_definitions.specs.Text.{line, item_lines, claim_line, Whole}
 use Rattle.cable_definitions.specs.Tree.{Item, RowItem, WorkItem, ProofState, empty_state, Accepts, Leads}
-use Rattle.cable_definitions.specs.Built.{IsBuiltItem}
 use Rattle.cable_definitions.specs.Refusal.{DocLine, RowLine, WorkLine, WeightLine, ActLine, ClaimLine, RawClaim, act_from, row_from, Phase, AtBudget, AtItem, AtWeights, AtCables, AtLast, Reader, reader_at, IsFoundByFeeding, IsRowRefused, IsWorkRefused, IsClaimOf, IsClaimRefused, IsLeastCause, GoesOn, ReadsLines}
-use Rattle.branch_tree.specs.declared.work.Refusal.{Refusal}
+use Rattle.cable_definitions.specs.declared.claim.Refusal.{Refusal}
 use Rattle.cable_text.specs.Stream.{GivesFront}
 use Rattle.document_laws.proofs.Going.{claim-same, same_node, same_weights}
 use Rattle.document_laws.proofs.Spelled.{members-read}
@@ -81,7 +80,6 @@ pub read_on : (s : Site) (arcs : List CandidateArc) (first now after : Option (L
 read_on s arcs first now after start lines later phase next n kept cables further front more ms h reads gives e = record {
   items = h.items;
   accepted = h.accepted;
-  built = h.built;
   come = come_on s arcs first now after start lines later (state phase n kept cables) (state next n kept further) (front h.items) more ms h.come reads gives e;
 }
 
@@ -152,12 +150,11 @@ one_text n items item =
 
 -- an item more
 item_on : (s : Site) (arcs : List CandidateArc) (first now after : Option (List ℕ)) (start lines later n : ℕ) (kept new : ProofState) (item : Item) (ms : List DocLine) → HasRead s arcs first now start lines (state AtItem n kept []) (items_text n)
-    → ReadsFrom s arcs (state AtItem n kept []) now after ms (state AtItem n new []) → GivesFront now after (item_lines item) → later ≡ line_number_after lines (length ms) → Accepts s arcs n kept item new → IsBuiltItem item
+    → ReadsFrom s arcs (state AtItem n kept []) now after ms (state AtItem n new []) → GivesFront now after (item_lines item) → later ≡ line_number_after lines (length ms) → Accepts s arcs n kept item new
     → HasRead s arcs first after start later (state AtItem n new []) (items_text n)
-item_on s arcs first now after start lines later n kept new item ms h reads gives e accepts built = record {
+item_on s arcs first now after start lines later n kept new item ms h reads gives e accepts = record {
   items = h.items ++ item ∷ [];
   accepted = leads_one s arcs n h.items item empty_state kept new h.accepted accepts;
-  built = All-append IsBuiltItem h.items (item ∷ []) h.built (All-cons IsBuiltItem item [] built (All-nil IsBuiltItem));
   come =
       let P : List ℕ → Type 0 = λ text. HasCome s arcs first after start later (state AtItem n new []) text in
       subst P (one_text n h.items item) (come_on s arcs first now after start lines later (state AtItem n kept []) (state AtItem n new []) (items_text n h.items) (item_lines item) ms h.come reads gives e);
@@ -176,7 +173,7 @@ row_on s arcs first now after start lines later n kept new kind members h row e 
     let P : Row → Type 0 = λ x. Accepts s arcs n kept (RowItem x) new in
     let Q : Row → Type 0 = λ x. (cause : Cause) → ¬ (IsRowRefused s arcs kept x cause) in
     item_on s arcs first now after start lines later n kept new (RowItem (record { kind = kind; members = members })) (RowLine kind (map pos members) ∷ []) h
-    (fed_line s arcs r (state AtItem n new []) now after (RowLine kind (map pos members)) (row.reads s r refl) (subst Q same none) (new, subst P same accepts, refl)) row.text e accepts row.built
+    (fed_line s arcs r (state AtItem n new []) now after (RowLine kind (map pos members)) (row.reads s r refl) (subst Q same none) (new, subst P same accepts, refl)) row.text e accepts
 
 pub row_refused : (s : Site) (arcs : List CandidateArc) (first now after : Option (List ℕ)) (start lines n : ℕ) (kept : ProofState) (kind : RowKind) (members : List ℕ) (refusal : Refusal)
     → HasRead s arcs first now start lines (state AtItem n kept []) (items_text n) → ReadsRow now after kind members → refusal.line ≡ line_number_after lines 1
@@ -216,7 +213,7 @@ work_on s arcs first now after start lines later n kept new v weights act h work
     (v, weights, new, refl, subst P (sym work.act_is) accepts, refl) in
     item_on s arcs first now after start lines later n kept new (WorkItem v weights act) (front ++ ActLine work.raw ∷ []) h
     (from_then s arcs r at_act done now work.middle after front (ActLine work.raw ∷ []) (from_of s arcs r at_act now work.middle front (work.reads s r refl)) act_read)
-    work.text (counts weights lines later front refl e) accepts work.few
+    work.text (counts weights lines later front refl e) accepts
   where
     counts : (ws : List (ℕ × ℤ)) (lines later : ℕ) (front : List DocLine) → front ≡ WorkLine (pos v) (pos (length ws)) ∷ weight_lines ws → later ≡ line_number_after lines (2 + length ws) → later ≡ line_number_after lines (length (front ++ ActLine work.raw ∷ []))
     counts ws lines later front f e = let a = length-append front (ActLine work.raw ∷ []) in let b = ap length f in let c = weight_count ws in omega (arith, a, b, c, e)

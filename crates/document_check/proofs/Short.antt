@@ -13,7 +13,6 @@ use Rattle.cable_definitions.specs.Text.{Whole}
 use Rattle.cable_definitions.specs.Items.{Field, within, IsWithin}
 use Rattle.cable_definitions.specs.Row.{Row}
 use Rattle.cable_definitions.specs.Tree.{ProofState}
-use Rattle.cable_definitions.specs.Built.{most_weights}
 use Rattle.cable_definitions.specs.Refusal.{DocLine, BudgetLine, RowLine, WorkLine, WeightLine, ActLine, LayoutLine, CableLine, ClaimLine, EndLine, IsWithinLimits, Phase, AtBudget, AtItem, AtWeights, AtCables, AtLast, Past, AtJudged, AtAnyCables, Reader, reader_at, is_allowed, row_from, IsReadable, GoesOn, ReadsLines}
 
 -- ---- numbers within their ranges
@@ -34,7 +33,7 @@ one_within z least most fields h = field_within z least most (All-head IsWithin 
 
 -- the number of weights
 abbrev count_field : ℤ → Field
-count_field k = within (Some k) (pos 0) (pos most_weights)
+count_field k = within (Some k) (pos 0) (pos 1024)
 
 -- ---- one line
 -- a reader that has read so many lines, by where it stands
@@ -72,7 +71,7 @@ line_short s arcs AtItem n kept cables (RowLine kind members) next m allowed lim
     next_short next (record { phase = AtItem; budget = n; kept = goes.0; cables = cables }) (m + 1) goes.2
     (short.0, most, omega (arith, works, short.2), omega (arith, works, rows, short.3))
 line_short s arcs AtItem n kept cables (WorkLine v k) next m allowed limits goes short =
-    let most : nat_abs k ≤ 1024 = not_false (nat_abs k) 1024 (λ none. limits (λ w. none (let h = field_within k 0 most_weights (All-head IsWithin (count_field k) [] (All-tail IsWithin (within (Some v) (pos 1) (pos 100001)) (count_field k ∷ []) w.0)) in omega (arith, h)))) in
+    let most : nat_abs k ≤ 1024 = not_false (nat_abs k) 1024 (λ none. limits (λ w. none (let h = field_within k 0 1024 (All-head IsWithin (count_field k) [] (All-tail IsWithin (within (Some v) (pos 1) (pos 100001)) (count_field k ∷ []) w.0)) in omega (arith, h)))) in
     next_short next (record { phase = AtWeights (nat_abs v) (nat_abs k) []; budget = n; kept = kept; cables = cables }) (m + 1) goes
     (short.0, short.1, short.2, omega (arith, most, short.3))
 line_short s arcs AtItem n kept cables (LayoutLine k) next m allowed limits goes short =

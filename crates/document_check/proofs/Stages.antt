@@ -16,10 +16,9 @@ use Rattle.cable_definitions.specs.Command.{IsBudget}
 use Rattle.cable_definitions.specs.Document.{IsClaimInRange}
 use Rattle.cable_definitions.specs.Text.{line, cable_line, claim_line}
 use Rattle.cable_definitions.specs.Tree.{Item, RowItem, WorkItem, ProofState, empty_state, Accepts, Agrees}
-use Rattle.cable_definitions.specs.Built.{IsBuiltItem, IsBuiltClaim}
 use Rattle.cable_definitions.specs.Refusal.{BudgetLine, LayoutLine, EndLine, RawClaim, ClaimLine, AtBudget, AtItem, AtCables, AtLast, Past, Reader, reader_at, IsRowRefused, IsWorkRefused, IsClaimOf, IsClaimRefused}
-use Rattle.branch_tree.specs.declared.work.Refusal.{Refusal}
-use Rattle.branch_tree.specs.declared.work.Work.{Work}
+use Rattle.cable_definitions.specs.declared.claim.Refusal.{Refusal}
+use Rattle.bound_value.specs.declared.work.Work.{Work}
 use Rattle.cable_text.specs.Stream.{GivesFront, IsAtEnd}
 use Rattle.cable_text.specs.Lines.{ahead}
 use Rattle.cable_text.specs.declared.fault.LineFault.{LineFault}
@@ -74,7 +73,6 @@ begun s arcs before after old new n budget kept e f reads text lines =
     subst P (sym e) (subst Q (sym f) (record {
       items = [];
       accepted = refl;
-      built = All-nil IsBuiltItem;
       come = subst R (sym (append-nil budget_line))
           (come_first s arcs before after old new (state AtItem n empty_state []) budget_line (BudgetLine (pos n) ∷ []) (from_of s arcs first (state AtItem n empty_state []) before after (BudgetLine (pos n) ∷ []) (reads s first refl)) text lines);
     }))
@@ -264,11 +262,11 @@ whole_text (Some whole) after text h end bytes e =
     sym same ∙ h.1 ∙ ap (λ (rest : List ℕ). text ++ rest) last ∙ append-nil text
 
 pub accepted_end : (s : Site) (arcs : List CandidateArc) (n count : ℕ) (kept : ProofState) (cables : List Cable) (claim : Claim) (before after : Option (List ℕ)) (lines later : ℕ) (first : Option (List ℕ)) (start : ℕ)
-    → AreArcs s arcs → IsBudget n → length cables ≡ count → AllPairs (λ c d. c.from < d.from) cables → Agrees s n kept cables claim → IsClaimInRange claim → IsBuiltClaim claim
+    → AreArcs s arcs → IsBudget n → length cables ≡ count → AllPairs (λ c d. c.from < d.from) cables → Agrees s n kept cables claim → IsClaimInRange claim
     → HasRead s arcs first before start lines (state AtLast n kept cables) (λ items. cables_text s n count cables items ++ claim_line s claim)
     → GivesFront before after (line (codes "end" ∷ codes "document" ∷ [])) → ((s : Site) (r : Reader) → r.phase ≡ AtLast → ReadsTo s r before after (EndLine ∷ []) (record r { phase = Past })) → later ≡ line_number_after lines 1 → IsAtEnd after
     → IsAcceptedBehind s first cables claim
-accepted_end s arcs n count kept cables claim before after lines later first start are budget size order agrees range built h gives reads e end =
+accepted_end s arcs n count kept cables claim before after lines later first start are budget size order agrees range h gives reads e end =
     let r = state AtLast n kept cables in
     let last = read_on s arcs first before after start lines later AtLast Past n kept cables cables (λ items. cables_text s n count cables items ++ claim_line s claim) (line (codes "end" ∷ codes "document" ∷ [])) (EndLine ∷ []) h
     (from_of s arcs r (state Past n kept cables) before after (EndLine ∷ []) (reads s r refl)) gives e in
@@ -281,7 +279,6 @@ accepted_end s arcs n count kept cables claim before after lines later first sta
       is_budget = budget;
       in_order = order;
       accepted = last.accepted;
-      built = record { items_built = last.built; claim_built = built };
       in_range = range;
       agrees = agrees;
       text = λ bytes same.

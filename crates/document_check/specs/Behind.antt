@@ -11,7 +11,6 @@ use Rattle.cable_definitions.specs.Tree.{Item, ProofState, IsAccepted, Agrees}
 use Rattle.cable_definitions.specs.Text.{line, item_lines, cable_line, claim_line}
 use Rattle.cable_definitions.specs.Command.{IsBudget}
 use Rattle.cable_definitions.specs.Document.{IsClaimInRange}
-use Rattle.cable_definitions.specs.Built.{AreBuilt}
 
 -- the text of a document behind the lines of its site
 abbrev pub text_behind : Site → ℕ → List Item → List Cable → Claim → List ℕ
@@ -29,7 +28,6 @@ pub record IsAcceptedBehind (s : Site) (before : Option (List ℕ)) (cables : Li
   pub is_budget : IsBudget budget
   pub in_order : AllPairs (λ c d. c.from < d.from) cables
   pub accepted : IsAccepted s arcs budget items kept
-  pub built : AreBuilt items claim
   pub in_range : IsClaimInRange claim
   pub agrees : Agrees s budget kept cables claim
   pub text : (bytes : List ℕ) → before ≡ Some bytes → bytes ≡ text_behind s budget items cables claim

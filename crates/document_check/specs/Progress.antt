@@ -7,9 +7,8 @@ use Rattle.cable_definitions.specs.declared.cable.Arc.{Arc as CandidateArc}
 use Rattle.cable_definitions.specs.Site.{Site}
 use Rattle.cable_definitions.specs.Tree.{Item, ProofState, IsAccepted}
 use Rattle.cable_definitions.specs.Text.{line, item_lines, cable_line}
-use Rattle.cable_definitions.specs.Built.{IsBuiltItem}
 use Rattle.cable_definitions.specs.Refusal.{DocLine, Phase, AtBudget, Reader, reader_at, ReadsLines, IsRefusedAfter}
-use Rattle.branch_tree.specs.declared.work.Refusal.{Refusal}
+use Rattle.cable_definitions.specs.declared.claim.Refusal.{Refusal}
 use Rattle.cable_text.specs.Stream.{GivesFront}
 use Rattle.proof_text.specs.Reading.{line_number_after}
 use Rattle.document_check.specs.declared.document.DocumentFault.{DocumentFault}
@@ -32,7 +31,6 @@ pub record HasCome (s : Site) (arcs : List CandidateArc) (first now : Option (Li
 pub record HasRead (s : Site) (arcs : List CandidateArc) (first now : Option (List ℕ)) (start lines : ℕ) (r : Reader) (front : List Item → List ℕ) : Type 0 where
   pub items : List Item
   pub accepted : IsAccepted s arcs r.budget items r.kept
-  pub built : All IsBuiltItem items
   pub come : HasCome s arcs first now start lines r (front items)
 
 -- the first cause stands at this line of the bytes behind the site

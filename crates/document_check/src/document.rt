@@ -1,21 +1,19 @@
 ghost use Rattle.std.specs.Prelude.{◌≡◌, ℕ, ◌+◌, ◌<◌, ◌≤◌, ◌^◌, List, [], ◌++◌, Option, None, Some, Err, IfOk, OnOk};
 ghost use Rattle.cable_definitions.specs.declared.cable.Arc.{Arc as AnArc};
 ghost use Rattle.cable_definitions.specs.Arcs.{AreArcs};
-ghost use Rattle.cable_definitions.specs.Built.{IsBuiltClaim};
 ghost use Rattle.cable_definitions.specs.Command.{IsBudget};
 ghost use Rattle.cable_definitions.specs.Document.{IsClaimInRange};
 ghost use Rattle.cable_definitions.specs.Refusal.{AtBudget, AtItem, AtCables, AtLast, IsRefusedAfter};
 ghost use Rattle.cable_definitions.specs.Text.{claim_line};
 ghost use Rattle.cable_definitions.specs.Tree.{Item, Agrees};
-ghost use Rattle.branch_tree.specs.declared.work.Refusal.{Refusal as AnyRefusal};
+ghost use Rattle.cable_definitions.specs.declared.claim.Refusal.{Refusal as AnyRefusal};
 ghost use Rattle.cable_text.specs.Stream.{Rose, IsAtEnd};
 ghost use Rattle.cable_text.specs.Lines.{ahead};
 ghost use Rattle.document_check.specs.Behind.{IsAcceptedBehind};
 ghost use Rattle.document_check.specs.Feeding.{FeedsNext, FeedsToLayout, fault_from};
 ghost use Rattle.document_check.specs.Progress.{HasRead, IsRefusedFrom, ReadsOn, RefusesOn, IfRefused, IfRead, state, items_text, text_to_layout};
 
-use branch_tree::Refusal;
-use cable_definitions::claim::Claim;
+use cable_definitions::claim::{Claim, Refusal};
 use cable_text::{Lines, Source};
 use layout_meaning::Layout;
 use proof_checker::Checker;
@@ -157,7 +155,6 @@ fn judge_claim<S: Source>(
     requires kept { lines.old.kept ≡ None }
     ensures agrees { IfOk result (Agrees site.now checker.old.budget checker.old.kept layout.now) }
     ensures range { IfOk result IsClaimInRange }
-    ensures built { IfOk result IsBuiltClaim }
     ensures reads { IfOk result (λ claim. (front : List Item → List ℕ) → ReadsOn site.now checker.old.arcs (ahead lines.old.pending (S.left src.old)) (ahead lines.new.pending (S.left src.new))
         lines.old.lines lines.new.lines (state (AtCables 0) checker.old.budget checker.old.kept layout.now) (state AtLast checker.old.budget checker.old.kept layout.now)
         front (λ items. front items ++ claim_line site.now claim)) }

@@ -1,6 +1,5 @@
 use crate::{DocumentFault, read_document};
-use branch_tree::Refusal;
-use cable_definitions::claim::{Cause, Claim};
+use cable_definitions::claim::{Cause, Claim, Refusal};
 use cable_text::{Lines, MemorySource};
 use site_text::read_site;
 use std::alloc::Global;

@@ -1,12 +1,12 @@
 -- Lines that a reader goes on after, one after another to the end of a document.
-use Rattle.std.proofs.Common.{◌≡◌, ℕ, ◌≤◌, List, [], ◌∷◌, ◌++◌, length, IsTrue, refl, ap, ◌∙◌, subst, append_assoc}
+use Rattle.std.proofs.Common.{◌≡◌, ℕ, ◌≤◌, List, [], ◌∷◌, ◌++◌, length, IsTrue, refl, ◌∙◌, subst, append_assoc}
 use Rattle.std.specs.Prelude.{All}
 use Rattle.cable_definitions.specs.declared.cable.Arc.{Arc as CandidateArc}
 use Rattle.cable_definitions.specs.declared.claim.Cause.{Cause}
 use Rattle.cable_definitions.specs.declared.claim.Cause.TheVariants.{Line, Form, Limit, Layout}
 use Rattle.cable_definitions.specs.Site.{Site}
 use Rattle.cable_definitions.specs.Text.{words, line, IsWord, Whole}
-use Rattle.cable_definitions.specs.Refusal.{RawClaim, DocLine, ClaimLine, EndLine, line_spelling, IsSpelled, HasMembers, IsWithinLimits, Reader, Past, is_allowed, IsLineAt, NamesHold, IsFoundByReading, IsFoundByFeeding, IsReadable, GoesOn, ReadsLines}
+use Rattle.cable_definitions.specs.Refusal.{DocLine, line_spelling, IsSpelled, HasMembers, IsWithinLimits, Reader, is_allowed, IsLineAt, NamesHold, IsFoundByReading, IsFoundByFeeding, IsReadable, GoesOn, ReadsLines}
 use Rattle.document_laws.proofs.Words.{words_plain}
 use Rattle.document_laws.proofs.Decoding.{line-same}
 
@@ -58,23 +58,11 @@ first-line s arcs r next end l ls bytes after rest c e reads = (
   reads,
 )
 
--- a run to the end of a document with this verdict
-pub record ReadsAll (s : Site) (arcs : List CandidateArc) (r : Reader) (bytes : List ℕ) (raw : RawClaim) : Type 0 where
-  pub lines : List DocLine
-  pub front : List DocLine
-  pub lines_are : lines ≡ front ++ ClaimLine raw ∷ EndLine ∷ []
-  pub end : Reader
-  pub past : end.phase ≡ Past
+-- a run over these lines to this reader and to the end of the bytes
+pub record ReadsAll (s : Site) (arcs : List CandidateArc) (r : Reader) (bytes : List ℕ) (lines : List DocLine) (end : Reader) : Type 0 where
   pub reads : ReadsLines s arcs r bytes lines end []
 
 -- a line more in front of it
-pub reads-first : (s : Site) (arcs : List CandidateArc) (r next : Reader) (l : DocLine) (bytes after : List ℕ) (raw : RawClaim)
-    → CanRead s arcs r l next → bytes ≡ line (line_spelling l) ++ after → ReadsAll s arcs next after raw → ReadsAll s arcs r bytes raw
-reads-first s arcs r next l bytes after raw c e w = record {
-  lines = l ∷ w.lines;
-  front = l ∷ w.front;
-  lines_are = ap (λ (ls : List DocLine). l ∷ ls) w.lines_are;
-  end = w.end;
-  past = w.past;
-  reads = first-line s arcs r next w.end l w.lines bytes after [] c e w.reads;
-}
+pub reads-first : (s : Site) (arcs : List CandidateArc) (r next : Reader) (l : DocLine) (bytes after : List ℕ) (lines : List DocLine) (end : Reader)
+    → CanRead s arcs r l next → bytes ≡ line (line_spelling l) ++ after → ReadsAll s arcs next after lines end → ReadsAll s arcs r bytes (l ∷ lines) end
+reads-first s arcs r next l bytes after lines end c e w = record { reads = first-line s arcs r next end l lines bytes after [] c e w.reads }

@@ -20,6 +20,8 @@ pub mod Counting
 pub mod Spelled
 -- lines that a reader goes on after, one after another to the end of a document
 pub mod CanRead
+-- the lines of a document behind its site, and that they tell the document
+pub mod LinesOf
 -- the numbers of what is accepted lie within the ranges of their fields
 pub mod Fitting
 -- the lines behind the site of a document are read to their end

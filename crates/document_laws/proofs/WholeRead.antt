@@ -12,7 +12,6 @@ use Rattle.cable_definitions.specs.declared.claim.Claim.{Claim}
 use Rattle.cable_definitions.specs.declared.claim.Claim.TheVariants.{Optimal, Gap, Partial, Infeasible}
 use Rattle.cable_definitions.specs.Site.{Site, IsValid}
 use Rattle.cable_definitions.specs.Arcs.{AreArcs}
-use Rattle.cable_definitions.specs.Built.{is_built_kind, most_weights, IsBuiltItem, IsBuiltClaim, AreBuilt}
 use Rattle.cable_definitions.specs.declared.cable.Rule.TheVariants.{Range}
 use Rattle.cable_definitions.specs.Layout.{KeepsRange}
 use Rattle.cable_definitions.specs.Command.{IsBudget}
@@ -22,7 +21,7 @@ use Rattle.cable_definitions.specs.Numeral.{numeral, spelling as spelled}
 use Rattle.cable_definitions.specs.Row.{Row, SomeMember, RightCount}
 use Rattle.cable_definitions.specs.Text.{number, words, line, kind_word, row_line, weight_line, act_line, item_lines, cable_line, claim_line, name_of, site_lines, document_text}
 use Rattle.cable_definitions.specs.Tree.{Item, RowItem, WorkItem, ProofState, empty_state, IsAccepted, IsListed, IsWorked, Accepts, Leads, LayoutAgrees, Agrees}
-use Rattle.cable_definitions.specs.Refusal.{RawClaim, BudgetLine, RowLine, WorkLine, WeightLine, ActLine, LayoutLine, CableLine, ClaimLine, EndLine, line_spelling, Phase, AtBudget, AtItem, AtWeights, AtCables, AtLast, Past, Reader, reader_at, is_built_verdict, IsCableOf, IsClaimOf, row_from, act_from, IsRowRefused, IsWorkRefused, IsClaimRefused}
+use Rattle.cable_definitions.specs.Refusal.{DocLine, BudgetLine, RowLine, WorkLine, WeightLine, ActLine, LayoutLine, CableLine, ClaimLine, EndLine, line_spelling, Phase, AtBudget, AtItem, AtWeights, AtCables, AtLast, Past, Reader, reader_at, IsCableOf, IsClaimOf, row_from, act_from, IsRowRefused, IsWorkRefused, IsClaimRefused}
 use Rattle.proof_laws.proofs.Lists.{all_from}
 use Rattle.proof_laws.proofs.FullLemma.{within-turbine}
 use Rattle.document_laws.proofs.ArcsOnce.{pairs-head, pairs-tail}
@@ -32,6 +31,7 @@ use Rattle.document_laws.proofs.Counting.{cables-most, IsCounted, counted-nothin
 use Rattle.document_laws.proofs.Spelled.{written, weight-written, IsShort, key, row-key, short-name, short-number, short-weight, short-text, short-words, two-short, three-short, four-short, count-within, weight-within, no_field, one_field, two_fields, raw_act, raw_act-read, act-written, raw_claim, HasName, claim-written, kind-short, members-short, members-written, members-read}
 use Rattle.document_laws.proofs.Fitting.{point-named, members-below, members-small, members-within, act-fits}
 use Rattle.document_laws.proofs.CanRead.{CanRead, first-line, ReadsAll, reads-first}
+use Rattle.document_laws.proofs.LinesOf.{cable_read, weight_read, items_read, layout_read, document_read}
 
 -- a reader behind the budget
 abbrev pub state : Phase → ℕ → ProofState → List Cable → Reader
@@ -57,12 +57,6 @@ can_end s arcs n kept cables =
       goes_on = refl;
     }
 
-verdict_built : (s : Site) (claim : Claim) → IsBuiltClaim claim → IsTrue (is_built_verdict (raw_claim s claim))
-verdict_built s (Optimal c) h = refl
-verdict_built s (Gap c b) h = refl
-verdict_built s (Partial b stuck) h = h
-verdict_built s Infeasible h = refl
-
 claim_named : (s : Site) (cables : List Cable) (claim : Claim) → IsValid s → LayoutAgrees s cables claim → HasName s claim
 claim_named s cables (Optimal c) valid h = tt
 claim_named s cables (Gap c b) valid h = tt
@@ -75,15 +69,15 @@ claim_of s cables (Gap c b) h = refl
 claim_of s cables (Partial b stuck) h = (stuck, h.turbine_is, refl, refl)
 claim_of s cables Infeasible h = refl
 
-can_claim : (s : Site) (arcs : List CandidateArc) (n : ℕ) (kept : ProofState) (cables : List Cable) (claim : Claim) → IsValid s → IsClaimInRange claim → IsBuiltClaim claim → Agrees s n kept cables claim
+can_claim : (s : Site) (arcs : List CandidateArc) (n : ℕ) (kept : ProofState) (cables : List Cable) (claim : Claim) → IsValid s → IsClaimInRange claim → Agrees s n kept cables claim
     → CanRead s arcs (state (AtCables 0) n kept cables) (ClaimLine (raw_claim s claim)) (state AtLast n kept cables)
-can_claim s arcs n kept cables claim valid range built agrees =
+can_claim s arcs n kept cables claim valid range agrees =
     let w = claim-written s claim range (claim_named s cables claim valid agrees.0) in
     record {
       are_words = short-words 24 (line_spelling (ClaimLine (raw_claim s claim))) w.shorts;
       short = few_words (line_spelling (ClaimLine (raw_claim s claim))) w.shorts w.few;
       members = tt;
-      allowed = verdict_built s claim built;
+      allowed = refl;
       within = (w.fields, tt);
       names = (claim, claim_of s cables claim agrees.0);
       none_found = λ cause h.
@@ -95,19 +89,14 @@ can_claim s arcs n kept cables claim valid range built agrees =
 abbrev pub end_line : List ℕ
 end_line = line (codes "end" ∷ codes "document" ∷ [])
 
-reads_claim : (s : Site) (arcs : List CandidateArc) (n : ℕ) (kept : ProofState) (cables : List Cable) (claim : Claim) → IsValid s → IsClaimInRange claim → IsBuiltClaim claim → Agrees s n kept cables claim
-    → ReadsAll s arcs (state (AtCables 0) n kept cables) (claim_line s claim ++ end_line) (raw_claim s claim)
-reads_claim s arcs n kept cables claim valid range built agrees =
+reads_claim : (s : Site) (arcs : List CandidateArc) (n : ℕ) (kept : ProofState) (cables : List Cable) (claim : Claim) → IsValid s → IsClaimInRange claim → Agrees s n kept cables claim
+    → ReadsAll s arcs (state (AtCables 0) n kept cables) (claim_line s claim ++ end_line) (ClaimLine (raw_claim s claim) ∷ EndLine ∷ []) (state Past n kept cables)
+reads_claim s arcs n kept cables claim valid range agrees =
     let w = claim-written s claim range (claim_named s cables claim valid agrees.0) in
     let last = first-line s arcs (state AtLast n kept cables) (state Past n kept cables) (state Past n kept cables) EndLine [] end_line [] [] (can_end s arcs n kept cables) (sym (append-nil end_line)) (refl, refl) in
     record {
-      lines = ClaimLine (raw_claim s claim) ∷ EndLine ∷ [];
-      front = [];
-      lines_are = refl;
-      end = state Past n kept cables;
-      past = refl;
       reads = first-line s arcs (state (AtCables 0) n kept cables) (state AtLast n kept cables) (state Past n kept cables) (ClaimLine (raw_claim s claim)) (EndLine ∷ []) (claim_line s claim ++ end_line) end_line []
-          (can_claim s arcs n kept cables claim valid range built agrees) (ap (λ (bytes : List ℕ). bytes ++ end_line) w.text) last;
+          (can_claim s arcs n kept cables claim valid range agrees) (ap (λ (bytes : List ℕ). bytes ++ end_line) w.text) last;
     }
 
 -- ---- the cables
@@ -148,23 +137,23 @@ cable_written s c valid of_site =
 in_front : (text own rest after : List ℕ) → text ≡ own → (text ++ rest) ++ after ≡ own ++ (rest ++ after)
 in_front text own rest after e = append_assoc text rest after ∙ ap (λ (bytes : List ℕ). bytes ++ (rest ++ after)) e
 
-reads_cables : (s : Site) (arcs : List CandidateArc) (n : ℕ) (kept : ProofState) (done cables whole : List Cable) (after : List ℕ) (raw : RawClaim) → IsValid s → done ++ cables ≡ whole
+reads_cables : (s : Site) (arcs : List CandidateArc) (n : ℕ) (kept : ProofState) (done cables whole : List Cable) (after : List ℕ) (later : List DocLine) (end : Reader) → IsValid s → done ++ cables ≡ whole
     → All (IsOfSite s) cables → AllPairs (λ c d. c.from < d.from) cables → All (λ c. All (λ d. d.from < c.from) done) cables
-    → ReadsAll s arcs (state (AtCables 0) n kept whole) after raw → ReadsAll s arcs (state (AtCables (length cables)) n kept done) (concat (map (cable_line s) cables) ++ after) raw
-reads_cables s arcs n kept done [] whole after raw valid e of_site order before rest =
-    subst (λ (cables : List Cable). ReadsAll s arcs (state (AtCables 0) n kept cables) after raw) (sym e ∙ append-nil done) rest
-reads_cables s arcs n kept done (c ∷ cables) whole after raw valid e of_site order before rest =
+    → ReadsAll s arcs (state (AtCables 0) n kept whole) after later end → ReadsAll s arcs (state (AtCables (length cables)) n kept done) (concat (map (cable_line s) cables) ++ after) (map (cable_read s) cables ++ later) end
+reads_cables s arcs n kept done [] whole after later end valid e of_site order before rest =
+    subst (λ (cables : List Cable). ReadsAll s arcs (state (AtCables 0) n kept cables) after later end) (sym e ∙ append-nil done) rest
+reads_cables s arcs n kept done (c ∷ cables) whole after later end valid e of_site order before rest =
     let own = All-head (IsOfSite s) c cables of_site in
     let first = All-head (λ (x : Cable). All (λ (d : Cable). d.from < x.from) done) c cables before in
     let others = All-tail (λ (x : Cable). All (λ (d : Cable). d.from < x.from) done) c cables before in
     let behind = pairs-head (λ (x d : Cable). x.from < d.from) c cables order in
-    let later : All (λ (x : Cable). All (λ (d : Cable). d.from < x.from) (done ++ c ∷ [])) cables =
+    let behind_all : All (λ (x : Cable). All (λ (d : Cable). d.from < x.from) (done ++ c ∷ [])) cables =
     λ k d l. All-push (λ (y : Cable). y.from < (get_or cables k d).from) done c (others k d l) (behind k d l) in
     reads-first s arcs (state (AtCables (suc (length cables))) n kept done) (state (AtCables (length cables)) n kept (done ++ c ∷ [])) (CableLine (name_of s c.from) (name_of s c.to) (pos c.grade))
-    (concat (map (cable_line s) (c ∷ cables)) ++ after) (concat (map (cable_line s) cables) ++ after) raw
+    (concat (map (cable_line s) (c ∷ cables)) ++ after) (concat (map (cable_line s) cables) ++ after) (map (cable_read s) cables ++ later) end
     (can_cable s arcs n kept done c (length cables) valid own first)
     (in_front (cable_line s c) (line (line_spelling (CableLine (name_of s c.from) (name_of s c.to) (pos c.grade)))) (concat (map (cable_line s) cables)) after (cable_written s c valid own))
-    (reads_cables s arcs n kept (done ++ c ∷ []) cables whole after raw valid (append_assoc done (c ∷ []) cables ∙ e) (All-tail (IsOfSite s) c cables of_site) (pairs-tail (λ (x d : Cable). x.from < d.from) c cables order) later rest)
+    (reads_cables s arcs n kept (done ++ c ∷ []) cables whole after later end valid (append_assoc done (c ∷ []) cables ∙ e) (All-tail (IsOfSite s) c cables of_site) (pairs-tail (λ (x d : Cable). x.from < d.from) c cables order) behind_all rest)
 
 -- ---- the layout
 can_layout : (s : Site) (arcs : List CandidateArc) (n k : ℕ) (kept : ProofState) → k ≤ 256 → CanRead s arcs (state AtItem n kept []) (LayoutLine (pos k)) (state (AtCables k) n kept [])
@@ -183,9 +172,9 @@ can_layout s arcs n k kept most =
     }
 
 -- ---- rows
-can_row : (s : Site) (arcs : List CandidateArc) (n : ℕ) (kept new : ProofState) (row : Row) → IsValid s → AreArcs s arcs → IsTrue (is_built_kind row.kind) → IsListed s arcs kept row new
+can_row : (s : Site) (arcs : List CandidateArc) (n : ℕ) (kept new : ProofState) (row : Row) → IsValid s → AreArcs s arcs → IsListed s arcs kept row new
     → CanRead s arcs (state AtItem n kept []) (RowLine row.kind (map pos row.members)) (state AtItem n new [])
-can_row s arcs n kept new row valid are built listed =
+can_row s arcs n kept new row valid are listed =
     let below = members-below s arcs row listed.well_formed in
     let some = listed.well_formed SomeMember 0 0 in
     let counts = listed.well_formed RightCount 0 0 in
@@ -202,7 +191,7 @@ can_row s arcs n kept new row valid are built listed =
       are_words = short-words 14 ws shorts;
       short = omega (arith, text, spelled_size, size, few);
       members = (some_members row.members some, λ t. size ∙ counts.0 t);
-      allowed = built;
+      allowed = refl;
       within = (members-within s arcs row.kind row.members valid are below, omega (arith, size, few));
       names = tt;
       none_found = λ cause h. row-stands s arcs kept row new cause listed (subst (λ (x : Row). IsRowRefused s arcs kept x cause) again h);
@@ -217,9 +206,9 @@ row_written : (s : Site) (arcs : List CandidateArc) (row : Row) → IsValid s �
 row_written s arcs row valid are below = ap (λ (ws : List (List ℕ)). line (codes "row" ∷ kind_word row.kind ∷ ws)) (members-written row.members below)
 
 -- ---- works
-can_work : (s : Site) (arcs : List CandidateArc) (n v k : ℕ) (kept : ProofState) → 1 ≤ v → v ≤ 100001 → k ≤ most_weights → k ≤ 1024
+can_work : (s : Site) (arcs : List CandidateArc) (n v k : ℕ) (kept : ProofState) → 1 ≤ v → v ≤ 100001 → k ≤ 1024
     → CanRead s arcs (state AtItem n kept []) (WorkLine (pos v) (pos k)) (state (AtWeights v k []) n kept [])
-can_work s arcs n v k kept some most few weights =
+can_work s arcs n v k kept some most weights =
     let small : v < 2 ^ 64 = omega (arith, most) in
     let little : k < 2 ^ 64 = omega (arith, weights) in
     let shorts = three-short 24 (codes "work") (numeral v) (numeral k) (key (codes "work") refl (lit≤ tt) (lit≤ tt)) (short-number v small) (short-number k little) in
@@ -228,7 +217,7 @@ can_work s arcs n v k kept some most few weights =
       short = few_words (codes "work" ∷ numeral v ∷ numeral k ∷ []) shorts (lit≤ tt);
       members = tt;
       allowed = refl;
-      within = (two_fields (within (Some (pos v)) (pos 1) (pos 100001)) (within (Some (pos k)) (pos 0) (pos most_weights)) (count-within v 1 100001 some most) (count-within k 0 most_weights (omega arith) few), tt);
+      within = (two_fields (within (Some (pos v)) (pos 1) (pos 100001)) (within (Some (pos k)) (pos 0) (pos 1024)) (count-within v 1 100001 some most) (count-within k 0 1024 (omega arith) weights), tt);
       names = tt;
       none_found = λ cause h. h;
       goes_on = refl;
@@ -266,16 +255,16 @@ weight_written w fits =
     let small : w.0 < 2 ^ 64 = omega (arith, row) in
     ap (λ (u : List ℕ). line (codes "by" ∷ u ∷ number w.1 ∷ [])) (written w.0 small) ∙ ap (λ (u : List ℕ). line (codes "by" ∷ numeral w.0 ∷ u ∷ [])) (weight-written w.1 fits.small)
 
-reads_weights : (s : Site) (arcs : List CandidateArc) (n v : ℕ) (kept : ProofState) (done weights whole : List (ℕ × ℤ)) (after : List ℕ) (raw : RawClaim) → done ++ weights ≡ whole → All IsWeight weights
-    → ReadsAll s arcs (state (AtWeights v 0 whole) n kept []) after raw → ReadsAll s arcs (state (AtWeights v (length weights) done) n kept []) (concat (map weight_line weights) ++ after) raw
-reads_weights s arcs n v kept done [] whole after raw e fits rest =
-    subst (λ (ws : List (ℕ × ℤ)). ReadsAll s arcs (state (AtWeights v 0 ws) n kept []) after raw) (sym e ∙ append-nil done) rest
-reads_weights s arcs n v kept done (w ∷ weights) whole after raw e fits rest =
+reads_weights : (s : Site) (arcs : List CandidateArc) (n v : ℕ) (kept : ProofState) (done weights whole : List (ℕ × ℤ)) (after : List ℕ) (later : List DocLine) (end : Reader) → done ++ weights ≡ whole → All IsWeight weights
+    → ReadsAll s arcs (state (AtWeights v 0 whole) n kept []) after later end → ReadsAll s arcs (state (AtWeights v (length weights) done) n kept []) (concat (map weight_line weights) ++ after) (map weight_read weights ++ later) end
+reads_weights s arcs n v kept done [] whole after later end e fits rest =
+    subst (λ (ws : List (ℕ × ℤ)). ReadsAll s arcs (state (AtWeights v 0 ws) n kept []) after later end) (sym e ∙ append-nil done) rest
+reads_weights s arcs n v kept done (w ∷ weights) whole after later end e fits rest =
     let own = All-head IsWeight w weights fits in
     reads-first s arcs (state (AtWeights v (suc (length weights)) done) n kept []) (state (AtWeights v (length weights) (done ++ w ∷ [])) n kept []) (WeightLine (pos w.0) w.1)
-    (concat (map weight_line (w ∷ weights)) ++ after) (concat (map weight_line weights) ++ after) raw (can_weight s arcs n v (length weights) kept done w own)
+    (concat (map weight_line (w ∷ weights)) ++ after) (concat (map weight_line weights) ++ after) (map weight_read weights ++ later) end (can_weight s arcs n v (length weights) kept done w own)
     (in_front (weight_line w) (line (line_spelling (WeightLine (pos w.0) w.1))) (concat (map weight_line weights)) after (weight_written w own))
-    (reads_weights s arcs n v kept (done ++ w ∷ []) weights whole after raw (append_assoc done (w ∷ []) weights ∙ e) (All-tail IsWeight w weights fits) rest)
+    (reads_weights s arcs n v kept (done ++ w ∷ []) weights whole after later end (append_assoc done (w ∷ []) weights ∙ e) (All-tail IsWeight w weights fits) rest)
 
 can_act : (s : Site) (arcs : List CandidateArc) (n v : ℕ) (kept new : ProofState) (weights : List (ℕ × ℤ)) (act : Act) → IsValid s → AreArcs s arcs → length kept.rows ≤ 16384 → IsWorked s arcs n kept v weights act new
     → CanRead s arcs (state (AtWeights v 0 weights) n kept []) (ActLine (raw_act act)) (state AtItem n new [])
@@ -302,16 +291,16 @@ weights_fit s arcs n kept new v weights act rows worked k d l =
     record { row = omega (arith, listed, rows); small = worked.lawful.small k d l }
 
 -- ---- items
-reads_items : (s : Site) (arcs : List CandidateArc) (n : ℕ) (items : List Item) (old kept : ProofState) (after : List ℕ) (raw : RawClaim) → IsValid s → AreArcs s arcs → n ≤ 50000 → IsCounted n old
-    → Leads s arcs n old items kept → All IsBuiltItem items → ReadsAll s arcs (state AtItem n kept []) after raw → ReadsAll s arcs (state AtItem n old []) (concat (map item_lines items) ++ after) raw
-reads_items s arcs n [] old kept after raw valid are most counted leads built rest = subst (λ (k : ProofState). ReadsAll s arcs (state AtItem n k []) after raw) leads rest
-reads_items s arcs n (RowItem row ∷ items) old kept after raw valid are most counted leads built rest =
+reads_items : (s : Site) (arcs : List CandidateArc) (n : ℕ) (items : List Item) (old kept : ProofState) (after : List ℕ) (later : List DocLine) (end : Reader) → IsValid s → AreArcs s arcs → n ≤ 50000 → IsCounted n old
+    → Leads s arcs n old items kept → ReadsAll s arcs (state AtItem n kept []) after later end → ReadsAll s arcs (state AtItem n old []) (concat (map item_lines items) ++ after) (items_read items later) end
+reads_items s arcs n [] old kept after later end valid are most counted leads rest = subst (λ (k : ProofState). ReadsAll s arcs (state AtItem n k []) after later end) leads rest
+reads_items s arcs n (RowItem row ∷ items) old kept after later end valid are most counted leads rest =
     let small = members-small s arcs row.kind row.members valid are (members-below s arcs row leads.1.well_formed) in
-    reads-first s arcs (state AtItem n old []) (state AtItem n leads.0 []) (RowLine row.kind (map pos row.members)) (concat (map item_lines (RowItem row ∷ items)) ++ after) (concat (map item_lines items) ++ after) raw
-    (can_row s arcs n old leads.0 row valid are (All-head IsBuiltItem (RowItem row) items built) leads.1)
+    reads-first s arcs (state AtItem n old []) (state AtItem n leads.0 []) (RowLine row.kind (map pos row.members)) (concat (map item_lines (RowItem row ∷ items)) ++ after) (concat (map item_lines items) ++ after) (items_read items later) end
+    (can_row s arcs n old leads.0 row valid are leads.1)
     (in_front (row_line row) (line (line_spelling (RowLine row.kind (map pos row.members)))) (concat (map item_lines items)) after (row_written s arcs row valid are small))
-    (reads_items s arcs n items leads.0 kept after raw valid are most (counted-accepts s arcs n old (RowItem row) leads.0 counted leads.1) leads.2 (All-tail IsBuiltItem (RowItem row) items built) rest)
-reads_items s arcs n (WorkItem v weights act ∷ items) old kept after raw valid are most counted leads built rest =
+    (reads_items s arcs n items leads.0 kept after later end valid are most (counted-accepts s arcs n old (RowItem row) leads.0 counted leads.1) leads.2 rest)
+reads_items s arcs n (WorkItem v weights act ∷ items) old kept after later end valid are most counted leads rest =
     let worked = leads.1 in
     let rows = counted.rows in
     let made = made-within old.nodes v worked.node worked.made in
@@ -324,13 +313,13 @@ reads_items s arcs n (WorkItem v weights act ∷ items) old kept after raw valid
     let little : length weights < 2 ^ 64 = let l = worked.weights_count in omega (arith, l) in
     let head : line (codes "work" ∷ decimal v ∷ decimal (length weights) ∷ []) ≡ line (line_spelling (WorkLine (pos v) (pos (length weights)))) =
     ap (λ (u : List ℕ). line (codes "work" ∷ u ∷ decimal (length weights) ∷ [])) (written v small) ∙ ap (λ (u : List ℕ). line (codes "work" ∷ numeral v ∷ u ∷ [])) (written (length weights) little) in
-    let act_part = reads-first s arcs (state (AtWeights v 0 weights) n old []) (state AtItem n leads.0 []) (ActLine (raw_act act)) (act_line act ++ further) further raw
+    let act_part = reads-first s arcs (state (AtWeights v 0 weights) n old []) (state AtItem n leads.0 []) (ActLine (raw_act act)) (act_line act ++ further) further (items_read items later) end
     (can_act s arcs n v old leads.0 weights act valid are rows worked) (ap (λ (bytes : List ℕ). bytes ++ further) w.text)
-    (reads_items s arcs n items leads.0 kept after raw valid are most (counted-accepts s arcs n old (WorkItem v weights act) leads.0 counted leads.1) leads.2 (All-tail IsBuiltItem (WorkItem v weights act) items built) rest) in
-    let weight_part = reads_weights s arcs n v old [] weights weights (act_line act ++ further) raw refl (weights_fit s arcs n old leads.0 v weights act rows worked) act_part in
+    (reads_items s arcs n items leads.0 kept after later end valid are most (counted-accepts s arcs n old (WorkItem v weights act) leads.0 counted leads.1) leads.2 rest) in
+    let weight_part = reads_weights s arcs n v old [] weights weights (act_line act ++ further) (ActLine (raw_act act) ∷ items_read items later) end refl (weights_fit s arcs n old leads.0 v weights act rows worked) act_part in
     reads-first s arcs (state AtItem n old []) (state (AtWeights v (length weights) []) n old []) (WorkLine (pos v) (pos (length weights))) (concat (map item_lines (WorkItem v weights act ∷ items)) ++ after)
-    (concat (map weight_line weights) ++ (act_line act ++ further)) raw
-    (can_work s arcs n v (length weights) old made.some upper (All-head IsBuiltItem (WorkItem v weights act) items built) worked.weights_count)
+    (concat (map weight_line weights) ++ (act_line act ++ further)) (map weight_read weights ++ ActLine (raw_act act) ∷ items_read items later) end
+    (can_work s arcs n v (length weights) old made.some upper worked.weights_count)
     (parts (line (codes "work" ∷ decimal v ∷ decimal (length weights) ∷ [])) (line (line_spelling (WorkLine (pos v) (pos (length weights))))) (concat (map weight_line weights)) (act_line act) (concat (map item_lines items)) after head)
     weight_part
   where
@@ -377,10 +366,11 @@ document_parts s n items cables claim =
     parts a b c d e f g = simp append_assoc
 
 pub document-read : (s : Site) (arcs : List CandidateArc) (n : ℕ) (items : List Item) (kept : ProofState) (cables : List Cable) (claim : Claim) → IsValid s → AreArcs s arcs → IsBudget n
-    → IsAccepted s arcs n items kept → AreBuilt items claim → AllPairs (λ c d. c.from < d.from) cables → IsClaimInRange claim → Agrees s n kept cables claim
-    → ReadsAll s arcs (reader_at AtBudget) (behind_site s n items cables claim) (raw_claim s claim)
-document-read s arcs n items kept cables claim valid are budget accepted built order range agrees =
+    → IsAccepted s arcs n items kept → AllPairs (λ c d. c.from < d.from) cables → IsClaimInRange claim → Agrees s n kept cables claim
+    → ReadsAll s arcs (reader_at AtBudget) (behind_site s n items cables claim) (document_read s n items cables claim) (state Past n kept cables)
+document-read s arcs n items kept cables claim valid are budget accepted order range agrees =
     let high = budget.1 in
+    let end : Reader = state Past n kept cables in
     let small : n < 2 ^ 64 = omega (arith, high) in
     let own = of_site s cables claim agrees.0 in
     let points = valid.points_count in
@@ -390,10 +380,10 @@ document-read s arcs n items kept cables claim valid are budget accepted built o
     let verdict = claim_line s claim ++ end_line in
     let listed = concat (map (cable_line s) cables) ++ verdict in
     let layout = line (codes "layout" ∷ decimal (length cables) ∷ []) ++ listed in
-    let claim_part = reads_claim s arcs n kept cables claim valid range built.claim_built agrees in
-    let cable_part = reads_cables s arcs n kept [] cables cables verdict (raw_claim s claim) valid refl own order (λ k d l. All-nil (λ (c : Cable). c.from < (get_or cables k d).from)) claim_part in
-    let layout_part = reads-first s arcs (state AtItem n kept []) (state (AtCables (length cables)) n kept []) (LayoutLine (pos (length cables))) layout listed (raw_claim s claim) (can_layout s arcs n (length cables) kept few)
+    let claim_part = reads_claim s arcs n kept cables claim valid range agrees in
+    let cable_part = reads_cables s arcs n kept [] cables cables verdict (ClaimLine (raw_claim s claim) ∷ EndLine ∷ []) end valid refl own order (λ k d l. All-nil (λ (c : Cable). c.from < (get_or cables k d).from)) claim_part in
+    let layout_part = reads-first s arcs (state AtItem n kept []) (state (AtCables (length cables)) n kept []) (LayoutLine (pos (length cables))) layout listed (map (cable_read s) cables ++ ClaimLine (raw_claim s claim) ∷ EndLine ∷ []) end (can_layout s arcs n (length cables) kept few)
     (ap (λ (w : List ℕ). line (codes "layout" ∷ w ∷ []) ++ listed) (written (length cables) little)) cable_part in
-    let item_part = reads_items s arcs n items empty_state kept layout (raw_claim s claim) valid are high (counted-nothing n) accepted built.items_built layout_part in
-    reads-first s arcs (reader_at AtBudget) (state AtItem n empty_state []) (BudgetLine (pos n)) (behind_site s n items cables claim) (concat (map item_lines items) ++ layout) (raw_claim s claim) (can_budget s arcs n budget)
+    let item_part = reads_items s arcs n items empty_state kept layout (layout_read s cables claim) end valid are high (counted-nothing n) accepted layout_part in
+    reads-first s arcs (reader_at AtBudget) (state AtItem n empty_state []) (BudgetLine (pos n)) (behind_site s n items cables claim) (concat (map item_lines items) ++ layout) (items_read items (layout_read s cables claim)) end (can_budget s arcs n budget)
     (ap (λ (w : List ℕ). line (codes "budget" ∷ w ∷ []) ++ (concat (map item_lines items) ++ layout)) (written n small)) item_part

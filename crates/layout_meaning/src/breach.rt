@@ -1,3 +1,5 @@
+//! The first broken rule of a list of cables.
+
 ghost use Rattle.std.specs.Prelude.{◌≤◌, ◌<◌, length, IfNone, IfSome};
 ghost use Rattle.cable_definitions.specs.Layout.{rule_number};
 ghost use Rattle.cable_definitions.specs.Part.{IsGrown, IsFirstBrokenOfPart};

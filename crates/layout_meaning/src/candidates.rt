@@ -1,3 +1,5 @@
+//! Cables that are no candidate arcs.
+
 ghost use Rattle.std.specs.Prelude.{ℕ, ◌<◌, ◌≤◌, length, IfNone, IfSome};
 ghost use Rattle.cable_definitions.specs.Layout.{KeepsRange, KeepsCandidate};
 ghost use Rattle.layout_meaning.specs.First.{IsFirstCable};

@@ -1,40 +1,14 @@
-ghost use Rattle.std.specs.Prelude.{◌≡◌, ℕ, ◌<◌, ◌↔◌, IsTrue, Some, length, IfNone, IfSome};
-ghost use Rattle.cable_definitions.specs.Layout.{KeepsRange, KeepsStart, KeepsClear, SamePair, PairsClash};
+//! Cables that clash.
+
+ghost use Rattle.std.specs.Prelude.{◌≡◌, ℕ, ◌<◌, Some, length, IfNone, IfSome};
+ghost use Rattle.cable_definitions.specs.Layout.{KeepsRange, KeepsStart, KeepsClear};
 ghost use Rattle.cable_definitions.specs.Walk.{cable_out as cable_out_of};
 ghost use Rattle.layout_meaning.specs.First.{IsFirst, IsFirstPair};
 ghost use Rattle.layout_meaning.specs.Numbers.{AreNumbers};
 
 use crate::outgoing::Outgoing;
 use cable_definitions::cable::Cable;
-use plane_geometry::clash;
 use site_model::Site;
-
-/// Whether two cables join the same two points.
-fn is_same_pair(first: Cable, second: Cable) -> bool
-    ensures { IsTrue result ↔ SamePair first.from first.to second.from second.to }
-{
-    if first.from == second.from && first.to == second.to {
-        return true;
-    }
-    first.from == second.to && first.to == second.from
-}
-
-/// Whether two cables join different pairs of points and clash.
-fn pairs_clash(site: &Site, first: Cable, second: Cable) -> bool
-    requires first { AreNumbers site.now first }
-    requires second { AreNumbers site.now second }
-    ensures { IsTrue result ↔ PairsClash site.now first.from first.to second.from second.to }
-{
-    if is_same_pair(first, second) {
-        return false;
-    }
-    let points = site.points();
-    let from = points[first.from as usize].at;
-    let to = points[first.to as usize].at;
-    let other_from = points[second.from as usize].at;
-    let other_to = points[second.to as usize].at;
-    clash(from, to, other_from, other_to)
-}
 
 /// The first start above that of a cable out of which comes a cable that clashes with it.
 fn first_clash_with(site: &Site, cables: &Outgoing, first: Cable) -> Option<u32>
@@ -48,7 +22,7 @@ fn first_clash_with(site: &Site, cables: &Outgoing, first: Cable) -> Option<u32>
     let count = site.points().len();
     for b in first.from + 1..count as u32 {
         if let Some(second) = cables.cable_out(b) {
-            if pairs_clash(site, first, second) {
+            if site.pairs_clash(first.from, first.to, second.from, second.to) {
                 return Some(b);
             }
         }

@@ -1,3 +1,5 @@
+//! What the cables cost together.
+
 ghost use Rattle.std.specs.Prelude.{◌≡◌, ℕ, ◌≤◌, ◌<◌, length};
 ghost use Rattle.cable_definitions.specs.Layout.{KeepsRange, KeepsCapacity, cost as cost_of_all};
 ghost use Rattle.layout_meaning.specs.Loads.{AreLoads};

@@ -1,3 +1,5 @@
+//! Substations and turbines in which too many cables end.
+
 ghost use Rattle.std.specs.Prelude.{◌≡◌, ℕ, ◌≤◌, ◌<◌, IfNone, IfSome};
 ghost use Rattle.cable_definitions.specs.Layout.{KeepsFeeders, KeepsString};
 ghost use Rattle.cable_definitions.specs.declared.site.Mode.TheVariants.{Strings};

@@ -1,3 +1,5 @@
+//! Turbines without a cable, open bends, and walks that end in no substation.
+
 ghost use Rattle.std.specs.Prelude.{◌≡◌, ℕ, ◌<◌, ◌≤◌, ◌↔◌, IsTrue, length, IfNone, IfSome};
 ghost use Rattle.cable_definitions.specs.Layout.{KeepsRange, KeepsJoined, KeepsBend, KeepsEnd};
 ghost use Rattle.cable_definitions.specs.Walk.{starts_in, ends_in};
@@ -86,12 +88,5 @@ pub(crate) fn first_lost(site: &Site, cables: &Outgoing) -> Option<u32>
 fn is_substation_at(site: &Site, p: u32) -> bool
     ensures { IsTrue result ↔ IsTrue (is_substation (kind_of site.now p)) }
 {
-    match site.points().get(p as usize) {
-        None => false,
-        Some(point) => match point.kind {
-            Kind::Turbine { power } => false,
-            Kind::Substation { feeders, power } => true,
-            Kind::Bend => false,
-        },
-    }
+    matches!(site.kind(p), Kind::Substation { .. })
 }

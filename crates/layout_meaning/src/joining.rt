@@ -36,14 +36,7 @@ pub enum JoinFault {
 fn is_turbine_at(site: &Site, p: u32) -> bool
     ensures { IsTrue result ↔ IsTrue (is_turbine (kind_of site.now p)) }
 {
-    match site.points().get(p as usize) {
-        None => false,
-        Some(point) => match point.kind {
-            Kind::Turbine { power } => true,
-            Kind::Substation { feeders, power } => false,
-            Kind::Bend => false,
-        },
-    }
+    matches!(site.kind(p), Kind::Turbine { .. })
 }
 
 /// Whether a point is a turbine that starts a cable.

@@ -1,23 +1,14 @@
-ghost use Rattle.std.specs.Prelude.{◌≡◌, ℕ, ◌≤◌, ◌<◌, ◌↔◌, IsTrue, length, IfNone, IfSome};
+//! Cables and substations that carry too much.
+
+ghost use Rattle.std.specs.Prelude.{◌≡◌, ℕ, ◌≤◌, ◌<◌, length, IfNone, IfSome};
 ghost use Rattle.cable_definitions.specs.Layout.{KeepsRange, KeepsStart, KeepsCapacity, KeepsPower};
-ghost use Rattle.cable_definitions.specs.Arcs.{capacity_of};
-ghost use Rattle.cable_definitions.specs.Walk.{load as load_of, load_into as load_into_of};
+ghost use Rattle.cable_definitions.specs.Walk.{load_into as load_into_of};
 ghost use Rattle.layout_meaning.specs.First.{IsFirst, IsFirstStart};
 ghost use Rattle.layout_meaning.specs.Loads.{AreLoads};
 
 use crate::outgoing::Outgoing;
 use cable_definitions::cable::Cable;
 use site_model::{Kind, Site};
-
-/// The capacity of a cable type, or 0 at a number past the types.
-fn capacity(site: &Site, grade: u32) -> u32
-    ensures { result ≡ capacity_of site.now grade }
-{
-    match site.types().get(grade as usize) {
-        None => 0,
-        Some(cable_type) => cable_type.capacity,
-    }
-}
 
 /// The first cable, in order of starts, that carries more than its type bears.
 pub(crate) fn first_overloaded(site: &Site, cables: &Outgoing, loads: &[u32; 256]) -> Option<Cable>
@@ -30,7 +21,7 @@ pub(crate) fn first_overloaded(site: &Site, cables: &Outgoing, loads: &[u32; 256
     let count = site.points().len();
     for p in 0..count as u32 {
         if let Some(cable) = cables.cable_out(p) {
-            if loads[p as usize] > capacity(site, cable.grade) {
+            if loads[p as usize] > site.capacity(cable.grade) {
                 return Some(cable);
             }
         }

@@ -1,3 +1,5 @@
+//! Numbers of the site, and starts that come again.
+
 ghost use Rattle.std.specs.Prelude.{ℕ, ◌<◌, ◌≤◌, ◌↔◌, IsTrue, length, IfNone, IfSome};
 ghost use Rattle.cable_definitions.specs.Layout.{KeepsRange, KeepsStart};
 ghost use Rattle.layout_meaning.specs.First.{IsFirst, IsFirstCable};

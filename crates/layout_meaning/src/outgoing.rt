@@ -1,3 +1,5 @@
+//! Lists of cables with the first cable out of each point at hand.
+
 ghost use Rattle.std.specs.Prelude.{◌≡◌, ◌↔◌, IsTrue, take, length};
 ghost use Rattle.cable_definitions.specs.Walk.{cable_out as cable_out_of};
 ghost use Rattle.cable_definitions.specs.Layout.{Starts};

@@ -1,3 +1,5 @@
+//! Judging a list of cables by the eleven rules.
+
 ghost use Rattle.std.specs.Prelude.{◌≡◌, ◌≤◌, length};
 ghost use Rattle.layout_meaning.specs.Verdict.{IsVerdict};
 

@@ -1,7 +1,10 @@
+//! Segments that clash.
+
 ghost use Rattle.std.specs.Prelude.{◌↔◌, IsTrue};
 ghost use Rattle.cable_definitions.specs.Plane.{Clash, SamePlace};
 ghost use Rattle.plane_geometry.specs.Sides.{IsInside, EndInside, SharesEnd, IsOneSegment};
 
+use crate::boxes::boxes_meet;
 use crate::common_point::meets;
 use crate::on_segment::lies_on;
 use cable_definitions::place::Place;
@@ -71,6 +74,9 @@ fn is_one_segment(a: Place, b: Place, c: Place, d: Place) -> bool
 pub fn clash(a: Place, b: Place, c: Place, d: Place) -> bool
     ensures { IsTrue result ↔ Clash a b c d }
 {
+    if !boxes_meet(a, b, c, d) {
+        return false;
+    }
     if !shares_end(a, b, c, d) {
         return meets(a, b, c, d);
     }

@@ -1,7 +1,10 @@
+//! Common points of two segments.
+
 ghost use Rattle.std.specs.Prelude.{◌↔◌, IsTrue};
 ghost use Rattle.cable_definitions.specs.Plane.{Meet};
 ghost use Rattle.plane_geometry.specs.Sides.{EndOn};
 
+use crate::boxes::boxes_meet;
 use crate::on_segment::lies_on;
 use crate::orientation::{is_parallel, straddles};
 use cable_definitions::place::Place;
@@ -22,6 +25,9 @@ fn end_lies_on(a: Place, b: Place, c: Place, d: Place) -> bool
 pub fn meets(a: Place, b: Place, c: Place, d: Place) -> bool
     ensures { IsTrue result ↔ Meet a b c d }
 {
+    if !boxes_meet(a, b, c, d) {
+        return false;
+    }
     if is_parallel(a, b, c, d) {
         return end_lies_on(a, b, c, d);
     }

@@ -1,3 +1,5 @@
+//! The length of a cable.
+
 ghost use Rattle.std.specs.Prelude.{◌≡◌};
 ghost use Rattle.cable_definitions.specs.Plane.{IsLength};
 

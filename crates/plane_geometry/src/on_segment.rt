@@ -1,3 +1,5 @@
+//! Places on a segment.
+
 ghost use Rattle.std.specs.Prelude.{◌↔◌, IsTrue};
 ghost use Rattle.cable_definitions.specs.Plane.{IsOn};
 ghost use Rattle.plane_geometry.specs.Sides.{Between, IsOnLineBetween};
@@ -29,13 +31,13 @@ fn is_between_in_y(p: Place, a: Place, b: Place) -> bool
 fn is_on_line_between(p: Place, a: Place, b: Place) -> bool
     ensures { IsTrue result ↔ IsOnLineBetween p a b }
 {
-    if !is_on_line(p, a, b) {
-        return false;
-    }
     if !is_between_in_x(p, a, b) {
         return false;
     }
-    is_between_in_y(p, a, b)
+    if !is_between_in_y(p, a, b) {
+        return false;
+    }
+    is_on_line(p, a, b)
 }
 
 /// Whether `p` lies on the segment from `a` to `b`. Both ends lie on it, and the segment may be a

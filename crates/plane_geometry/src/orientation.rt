@@ -1,3 +1,5 @@
+//! On which side of a way a place stands.
+
 ghost use Rattle.std.specs.Prelude.{◌≡◌, pos, ◌≤◌, ◌↔◌, IsTrue, unsigned_abs, ◌-ℤ◌, ◌*ℤ◌};
 ghost use Rattle.cable_definitions.specs.Coordinate.{IsCoordinate};
 ghost use Rattle.cable_definitions.specs.Plane.{orient as oriented};

@@ -1,3 +1,5 @@
+//! Places outside a polygon, by the even-odd rule (Shimrat, 1962).
+
 ghost use Rattle.std.specs.Prelude.{◌≡◌, ◌↔◌, pos, ◌&&◌, int_le, int_lt, IsTrue};
 ghost use Rattle.cable_definitions.specs.Plane.{orient as oriented, counts_for, IsOutside};
 

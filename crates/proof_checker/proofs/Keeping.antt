@@ -2,7 +2,7 @@
 use Rattle.std.proofs.Common.{◌≡◌, ℕ, Some, sym, ap, subst}
 use Rattle.cable_definitions.specs.declared.claim.Cause.{Cause}
 use Rattle.cable_definitions.specs.Refusal.{IsLeastCause}
-use Rattle.branch_tree.specs.declared.work.Refusal.{Refusal}
+use Rattle.cable_definitions.specs.declared.claim.Refusal.{Refusal}
 use Rattle.proof_checker.specs.State.{CheckerState, Refuses}
 
 -- the line is refused where its refusal has the least cause and is all that is kept of it

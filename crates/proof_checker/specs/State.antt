@@ -7,7 +7,7 @@ use Rattle.cable_definitions.specs.Arcs.{AreArcs}
 use Rattle.cable_definitions.specs.Row.{Row}
 use Rattle.cable_definitions.specs.Tree.{ProofState}
 use Rattle.cable_definitions.specs.Refusal.{IsLeastCause}
-use Rattle.branch_tree.specs.declared.work.Refusal.{Refusal}
+use Rattle.cable_definitions.specs.declared.claim.Refusal.{Refusal}
 use Rattle.branch_tree.specs.State.{TreeState}
 
 -- a site with its arcs, a budget of works, what the items so far leave behind, and the refusal so far

@@ -5,11 +5,11 @@ ghost use Rattle.cable_definitions.specs.Arcs.{AreArcs};
 ghost use Rattle.proof_checker.specs.Acts.{MayAct, MayNotAct};
 
 use bound_value::{Decisions, Mark};
-use branch_tree::{is_dead, is_full};
 use cable_definitions::claim::Cause;
 use cable_definitions::row::{Act, Why};
 use cable_rows::RowPool;
 use candidate_cables::Arcs;
+use node_reasons::{is_dead, is_full};
 use site_model::Site;
 
 /// Whether the number is that of an arc that is free.

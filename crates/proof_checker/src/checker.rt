@@ -3,16 +3,16 @@ ghost use Rattle.cable_definitions.specs.declared.claim.Cause.{Cause as AnyCause
 ghost use Rattle.cable_definitions.specs.Arcs.{AreArcs};
 ghost use Rattle.cable_definitions.specs.Tree.{Item, RowItem, WorkItem, empty_state, Accepts, IsAccepted, Agrees, Says};
 ghost use Rattle.cable_definitions.specs.Refusal.{IsRowRefused, IsWorkRefused, IsClaimRefused};
-ghost use Rattle.branch_tree.specs.declared.work.Refusal.{Refusal as AnyRefusal};
+ghost use Rattle.cable_definitions.specs.declared.claim.Refusal.{Refusal as AnyRefusal};
 ghost use Rattle.proof_checker.specs.State.{Refuses};
 ghost use Rattle.proof_checker.specs.Answers.{IsClosingBound};
 
 use crate::claims::{Bound, check_claim};
 use crate::rows::list_row;
 use crate::works::do_work;
-use bound_value::Decisions;
-use branch_tree::{Refusal, Tree, Work};
-use cable_definitions::claim::{Cause, Claim};
+use bound_value::{Decisions, Work};
+use branch_tree::Tree;
+use cable_definitions::claim::{Cause, Claim, Refusal};
 use cable_definitions::row::RowKind;
 use cable_rows::RowPool;
 use candidate_cables::Arcs;

@@ -7,7 +7,7 @@ mod claims;
 mod rows;
 mod works;
 
-pub use cable_definitions::claim::{Cause, Claim};
+pub use cable_definitions::claim::{Cause, Claim, Refusal};
 pub use checker::Checker;
 pub use claims::Bound;
 

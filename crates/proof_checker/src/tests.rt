@@ -1,8 +1,9 @@
 ghost use Rattle.std.specs.Prelude.{◌≤◌};
 
 use crate::{Bound, Cause, Checker, Claim};
-use bound_value::Weights;
-use branch_tree::{Act, Refusal, Why, Work};
+use bound_value::{Weights, Work};
+use branch_tree::{Act, Why};
+use cable_definitions::claim::Refusal;
 use cable_definitions::row::RowKind;
 use layout_meaning::{Cable, Layout};
 use site_model::{Mode, RawKind, Site, SiteBuilder, Version};

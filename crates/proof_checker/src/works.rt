@@ -10,8 +10,8 @@ ghost use Rattle.branch_tree.specs.State.{tree_after, IsMade, IsUnworked, ActIsW
 ghost use Rattle.proof_checker.specs.State.{kept_from};
 
 use crate::acts::bound_after;
-use bound_value::{Decisions, lawful, rounded_bound, weigh};
-use branch_tree::{Tree, Work};
+use bound_value::{Decisions, Work, lawful, rounded_bound, weigh};
+use branch_tree::Tree;
 use cable_definitions::claim::Cause;
 use cable_definitions::row::Act;
 use cable_rows::RowPool;

@@ -1,6 +1,5 @@
 use super::*;
-use bound_value::Weights;
-use branch_tree::Work;
+use bound_value::{Weights, Work};
 use cable_definitions::row::{Act, RowKind};
 use cable_text::MemorySink;
 use std::test::Fail;

@@ -1,17 +1,17 @@
 ghost use Rattle.std.specs.Prelude.{◌≡◌, ◌∷◌, [], ◌++◌, ◌<◌, length, map, codes, All, slice_get};
 ghost use Rattle.std.specs.List.{concat};
 ghost use Rattle.std.specs.Fmt.{decimal};
-ghost use Rattle.cable_definitions.specs.Text.{line, cable_line, claim_line, row_line, weight_line, act_line, why_words, kind_word, item_lines};
+ghost use Rattle.cable_definitions.specs.Text.{line, cable_line, claim_line, row_line, weight_line, act_line, why_words, item_lines};
 ghost use Rattle.cable_definitions.specs.Tree.{WorkItem};
 ghost use Rattle.cable_text.specs.Stream.{Writes};
 ghost use Rattle.site_text.specs.Line.{field_text};
 ghost use Rattle.proof_lines.specs.Written.{EndsAtPoints, NamesPoint, layout_lines, spaced_number};
 
-use branch_tree::Work;
+use bound_value::Work;
 use cable_definitions::cable::Cable;
 use cable_definitions::claim::Claim;
 use cable_definitions::row::{Act, RowKind, Why};
-use cable_text::{Failed, Sink, push_number};
+use cable_text::{Failed, LineBuffer, Sink, push_number};
 use layout_meaning::Layout;
 use site_model::Site;
 use site_text::{Field, name_of, push_line};
@@ -131,26 +131,23 @@ pub fn write_row<O: Sink>(kind: RowKind, members: &[u32], out: &mut O) -> Result
     ensures { Writes result (O.taken out.old) (O.taken out.new) (O.faults out.old)
         (O.faults out.new) (row_line (record { kind = kind; members = members.now })) }
 {
-    out.push(b"row ")?;
-    push_kind(kind, out)?;
-    push_members(members, out)?;
-    out.push(b"\n")
+    let mut buffer = LineBuffer::new();
+    match push_row(kind, members, &mut buffer) {
+        Ok(()) => out.push(buffer.as_slice()),
+        // A line that doesn't fit is written piece by piece.
+        Err(Failed) => push_row(kind, members, out),
+    }
 }
 
-/// Appends the word of a row's kind.
-fn push_kind<O: Sink>(kind: RowKind, out: &mut O) -> Result<(), Failed>
+/// Appends the line of a row piece by piece.
+fn push_row<O: Sink>(kind: RowKind, members: &[u32], out: &mut O) -> Result<(), Failed>
     ensures { Writes result (O.taken out.old) (O.taken out.new) (O.faults out.old)
-        (O.faults out.new) (kind_word kind) }
+        (O.faults out.new) (row_line (record { kind = kind; members = members.now })) }
 {
-    match kind {
-        RowKind::Out => out.push(b"out"),
-        RowKind::Flow => out.push(b"flow"),
-        RowKind::Inlet => out.push(b"inlet"),
-        RowKind::Bend => out.push(b"bend"),
-        RowKind::Power => out.push(b"power"),
-        RowKind::One => out.push(b"one"),
-        RowKind::Cut => out.push(b"cut"),
-    }
+    out.push(b"row ")?;
+    out.push(kind.word())?;
+    push_members(members, out)?;
+    out.push(b"\n")
 }
 
 /// Appends the members with a space before each.

@@ -3,7 +3,7 @@ use Rattle.std.proofs.Common.{◌≡◌, ℕ, ◌+◌, List, [], ◌∷◌, ◌+
 use Rattle.std.specs.Prelude.{IsTrue}
 use Rattle.std.proofs.lemmas.List.{length-append}
 use Rattle.cable_definitions.specs.declared.cable.Arc.{Arc as CandidateArc}
-use Rattle.branch_tree.specs.declared.work.Refusal.{Refusal}
+use Rattle.cable_definitions.specs.declared.claim.Refusal.{Refusal}
 use Rattle.cable_definitions.specs.Site.{Site}
 use Rattle.cable_definitions.specs.Refusal.{DocLine, EndLine, AtLast, Past, Reader, ReadsLines, may_end}
 use Rattle.proof_text.specs.declared.fault.ItemFault.{ItemFault}

@@ -10,58 +10,20 @@ use Rattle.cable_definitions.specs.Site.{Site}
 use Rattle.cable_definitions.specs.Text.{IsWord, words, Piece, Whole, LongLine, CutLine, NoLine}
 use Rattle.cable_definitions.specs.Numeral.{spelling as spelled}
 use Rattle.cable_definitions.specs.Refusal.{ASplit, AStop, AFull, ADeadRow, ADeadPair, ADeadLoad, ADeadLoop, ADeadPower, ADeadCeiling, AnOptimal, AGap, AnOpen, AnInfeasible, DocLine, BudgetLine, RowLine, WorkLine, WeightLine, ActLine, LayoutLine, CableLine, ClaimLine, EndLine, line_spelling, HasMembers, IsSpelled, IsWithinLimits, Phase, AtBudget, AtItem, AtWeights, AtCables, AtLast, Past, AtJudged, AtAnyCables, Reader, is_allowed, may_end, IsLineAt, NamesHold, IsBroken, IsFoundByReading, IsLeastCause, IsReadable, cause_number}
-use Rattle.site_text.proofs.Splitting.{words_injective}
-use Rattle.proof_text.specs.Words.{IsCut}
-use Rattle.proof_text.specs.Judged.{IsStanding, IsGoodLine, IsBad}
-use Rattle.proof_text.proofs.Standing.{one_member}
-use Rattle.proof_text.proofs.Decoding.{same_line, some_words}
+use Rattle.cable_text.proofs.Splitting.{words_injective}
+use Rattle.line_words.specs.Words.{IsCut}
+use Rattle.line_words.specs.Judged.{IsStanding, IsGoodLine, IsBad}
+use Rattle.line_words.proofs.Decoding.{same_line, some_words}
 
 -- ---- lines and their words
 -- a text spells one line
 pub one_line : (text : List ℕ) (l m : DocLine) → IsSpelled text l → IsSpelled text m → l ≡ m
 one_line text l m h k = same_line l m (words_injective (line_spelling l) (line_spelling m) (some_words l) (some_words m) h.are_words k.are_words (sym h.text_is ∙ k.text_is))
 
--- a row that may stand somewhere has one member
-row_few : (phase : Phase) (kind : RowKind) (members : List ℤ) → IsTrue (is_allowed phase (RowLine kind members)) → HasMembers (RowLine kind members) → length (line_spelling (RowLine kind members)) ≤ 4
-row_few AtBudget kind members a h = absurd (cc)
-row_few AtItem kind members a h = omega (arith, one_member kind members a h, length-map members spelled)
-row_few (AtWeights v zero weights) kind members a h = absurd (cc)
-row_few (AtWeights v (suc k) weights) kind members a h = absurd (cc)
-row_few (AtCables zero) kind members a h = absurd (cc)
-row_few (AtCables (suc k)) kind members a h = absurd (cc)
-row_few AtLast kind members a h = absurd (cc)
-row_few Past kind members a h = absurd (cc)
-row_few AtJudged kind members a h = absurd (cc)
-row_few (AtAnyCables zero) kind members a h = absurd (cc)
-row_few (AtAnyCables (suc k)) kind members a h = absurd (cc)
-
--- a line that may stand somewhere has at most four words
-few_words : (phase : Phase) (l : DocLine) → IsTrue (is_allowed phase l) → HasMembers l → length (line_spelling l) ≤ 4
-few_words phase (BudgetLine n) a h = omega arith
-few_words phase (RowLine kind members) a h = row_few phase kind members a h
-few_words phase (WorkLine v k) a h = omega arith
-few_words phase (WeightLine r w) a h = omega arith
-few_words phase (ActLine (ASplit c)) a h = omega arith
-few_words phase (ActLine AStop) a h = omega arith
-few_words phase (ActLine AFull) a h = omega arith
-few_words phase (ActLine (ADeadRow r)) a h = omega arith
-few_words phase (ActLine (ADeadPair c b)) a h = omega arith
-few_words phase (ActLine (ADeadLoad p)) a h = omega arith
-few_words phase (ActLine (ADeadLoop p)) a h = omega arith
-few_words phase (ActLine (ADeadPower p)) a h = omega arith
-few_words phase (ActLine ADeadCeiling) a h = omega arith
-few_words phase (LayoutLine k) a h = omega arith
-few_words phase (CableLine c b t) a h = omega arith
-few_words phase (ClaimLine (AnOptimal c)) a h = omega arith
-few_words phase (ClaimLine (AGap c b)) a h = omega arith
-few_words phase (ClaimLine (AnOpen b name)) a h = omega arith
-few_words phase (ClaimLine AnInfeasible) a h = omega arith
-few_words phase EndLine a h = omega arith
-
 -- the words that were cut stand as the line that the text is
 pub standing_of : (phase : Phase) (text : List ℕ) (ws : List (List ℕ)) (l : DocLine) → IsCut text ws → IsLineAt phase text l → IsStanding phase ws l
 standing_of phase text ws l cut h = record {
-  words_are = sym (cut.no_others (line_spelling l) (some_words l) (few_words phase l h.allowed h.spelled.members) (record { are_words = h.spelled.are_words; text_is = h.spelled.text_is }));
+  words_are = sym (cut.no_others (line_spelling l) (some_words l) (record { are_words = h.spelled.are_words; text_is = h.spelled.text_is }));
   members = h.spelled.members;
   allowed = h.allowed;
 }

@@ -1,64 +1,25 @@
--- Verdicts: their numbers within and beyond their ranges, their claims, and names that are no turbine's.
+-- Verdicts: their claims, and names that are no turbine's.
 use Rattle.std.proofs.Common.{◌≡◌, ℕ, ◌<◌, ◌^◌, ℤ, pos, negsuc, List, [], ◌∷◌, Some, refl, sym, ◌∙◌, ap, subst, All, arith, codes}
 use Rattle.std.specs.Prelude.{nat_abs, IsTrue}
 use Rattle.std.specs.Fmt.{decimal}
 use Rattle.std.proofs.lemmas.Int.{ints}
 use Rattle.std.proofs.lemmas.List.Elements.{All-head, All-tail}
-use Rattle.cable_definitions.specs.declared.claim.Cause.TheVariants.{Limit, Layout}
+use Rattle.cable_definitions.specs.declared.claim.Cause.TheVariants.{Layout}
 use Rattle.cable_definitions.specs.declared.claim.Claim.{Claim}
 use Rattle.cable_definitions.specs.declared.claim.Claim.TheVariants.{Optimal, Gap, Partial, Infeasible}
 use Rattle.cable_definitions.specs.Site.{Site}
 use Rattle.cable_definitions.specs.Text.{line, claim_line, name_of, Whole}
 use Rattle.cable_definitions.specs.Numeral.{spelling as spelled}
 use Rattle.cable_definitions.specs.Document.{IsClaimInRange}
-use Rattle.cable_definitions.specs.Built.{IsBuiltClaim}
 use Rattle.cable_text.proofs.Numerals.{numeral-decimal}
 use Rattle.cable_definitions.specs.Items.{Field, IsWithin, within}
-use Rattle.cable_definitions.specs.Refusal.{RawClaim, AnOptimal, AGap, AnOpen, AnInfeasible, IsClaimOf, claim_spelling, claim_fields, sum_field, is_built_verdict, ClaimLine, Phase, AtCables, Reader, IsLineAt, IsFoundByReading, IsLeastCause}
-use Rattle.proof_text.specs.declared.number.Number.{Number}
-use Rattle.proof_text.specs.Numbers.{Is}
-use Rattle.proof_text.specs.Words.{IsCut}
-use Rattle.proof_text.specs.Judged.{IsStanding, IsGoodLine, IsBad}
-use Rattle.proof_text.proofs.Standing.{bad_one, bad_second}
+use Rattle.cable_definitions.specs.Refusal.{RawClaim, AnOptimal, AGap, AnOpen, AnInfeasible, IsClaimOf, claim_spelling, claim_fields, sum_field, ClaimLine, Phase, AtCables, Reader, IsLineAt, IsFoundByReading, IsLeastCause}
+use Rattle.line_words.specs.declared.number.Number.{Number}
+use Rattle.line_words.specs.Numbers.{Is}
+use Rattle.line_words.specs.Words.{IsCut}
+use Rattle.line_words.specs.Judged.{IsStanding, IsGoodLine, IsBad}
+use Rattle.line_words.proofs.Standing.{bad_one, bad_second}
 use Rattle.proof_text.proofs.Causes.{line_of, first_layout}
-
-pub bad_optimal : (n : Number) → ((z : ℤ) → Is n z → ¬ (IsWithin (within (Some z) (pos 0) (pos 9223372036854775807)))) → (raw : RawClaim) → (z : ℤ) × (raw ≡ AnOptimal z) × Is n z → ¬ (All IsWithin (claim_fields raw))
-bad_optimal n none raw h all =
-    let P : List Field → Type 0 = All IsWithin in
-    bad_one (within (Some h.0) (pos 0) (pos 9223372036854775807)) [] (none h.0 h.2) (subst P (ap claim_fields h.1) all)
-
-pub bad_gap_first : (m n : Number) → ((z : ℤ) → Is m z → ¬ (IsWithin (within (Some z) (pos 0) (pos 9223372036854775807)))) → (raw : RawClaim) → (y z : ℤ) × (raw ≡ AGap y z) × Is m y × Is n z → ¬ (All IsWithin (claim_fields raw))
-bad_gap_first m n none raw h all =
-    let P : List Field → Type 0 = All IsWithin in
-    bad_one (within (Some h.0) (pos 0) (pos 9223372036854775807)) (within (Some h.1) (pos 0) (pos 9223372036854775807) ∷ []) (none h.0 h.3) (subst P (ap claim_fields h.2) all)
-
-pub bad_gap_second : (m n : Number) → ((z : ℤ) → Is n z → ¬ (IsWithin (within (Some z) (pos 0) (pos 9223372036854775807)))) → (raw : RawClaim) → (y z : ℤ) × (raw ≡ AGap y z) × Is m y × Is n z → ¬ (All IsWithin (claim_fields raw))
-bad_gap_second m n none raw h all =
-    let P : List Field → Type 0 = All IsWithin in
-    bad_second (within (Some h.0) (pos 0) (pos 9223372036854775807)) (within (Some h.1) (pos 0) (pos 9223372036854775807)) [] (none h.1 h.4) (subst P (ap claim_fields h.2) all)
-
-pub bad_open : (n : Number) (name : List ℕ) → ((z : ℤ) → Is n z → ¬ (IsWithin (within (Some z) (pos 0) (pos 9223372036854775807)))) → (raw : RawClaim) → (z : ℤ) × (raw ≡ AnOpen z name) × Is n z → ¬ (All IsWithin (claim_fields raw))
-bad_open n name none raw h all =
-    let P : List Field → Type 0 = All IsWithin in
-    bad_one (within (Some h.0) (pos 0) (pos 9223372036854775807)) [] (none h.0 h.2) (subst P (ap claim_fields h.1) all)
-
--- each verdict may stand behind the cables
-allowed_claim : (raw : RawClaim) → IsTrue (is_built_verdict raw)
-allowed_claim (AnOptimal c) = refl
-allowed_claim (AGap c b) = refl
-allowed_claim (AnOpen b name) = refl
-allowed_claim AnInfeasible = refl
-
-pub claim_standing : (ws : List (List ℕ)) (raw : RawClaim) → ws ≡ claim_spelling raw → IsStanding (AtCables 0) ws (ClaimLine raw)
-claim_standing ws raw e = record { words_are = e; members = tt; allowed = allowed_claim raw }
-
-pub claim_good : (ws : List (List ℕ)) (raw other : RawClaim) → ws ≡ claim_spelling raw → raw ≡ other → All IsWithin (claim_fields raw) → IsGoodLine (AtCables 0) ws (ClaimLine other)
-claim_good ws raw other e same h =
-    let P : RawClaim → Type 0 = λ r. IsGoodLine (AtCables 0) ws (ClaimLine r) in
-    subst P same (record { standing = claim_standing ws raw e; limits = (h, tt) })
-
-pub bad_claim_line : (ws : List (List ℕ)) (raw : RawClaim) → ws ≡ claim_spelling raw → ¬ (All IsWithin (claim_fields raw)) → IsBad (AtCables 0) ws Limit
-bad_claim_line ws raw e none = (ClaimLine raw, claim_standing ws raw e, λ w. none w.0)
 
 -- ---- the claim of a verdict
 -- the one number, the first of two, and the second
@@ -99,13 +60,6 @@ claim_in_range s (AnOptimal c) claim e h = subst IsClaimInRange (sym e) (small_s
 claim_in_range s (AGap c b) claim e h = subst IsClaimInRange (sym e) (small_sum c (one_within c (sum_field b ∷ []) h), small_sum b (second_within c b h))
 claim_in_range s (AnOpen b name) claim (p, turbine, named, e) h = subst IsClaimInRange (sym e) (small_sum b (one_within b [] h))
 claim_in_range s AnInfeasible claim e h = subst IsClaimInRange (sym e) tt
-
--- each is read
-pub claim_built : (claim : Claim) → IsBuiltClaim claim
-claim_built (Optimal c) = tt
-claim_built (Gap c b) = tt
-claim_built (Partial b stuck) = refl
-claim_built Infeasible = tt
 
 -- ---- a verdict that names no turbine
 pub no_turbine : (s : Site) (r : Reader) (text : List ℕ) (ws : List (List ℕ)) (raw : RawClaim) → r.phase ≡ AtCables 0 → IsCut text ws → IsGoodLine (AtCables 0) ws (ClaimLine raw) → ((claim : Claim) → ¬ (IsClaimOf s raw claim))

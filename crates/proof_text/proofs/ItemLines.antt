@@ -1,8 +1,9 @@
 -- The lines of items, as they were found.
-use Rattle.std.proofs.Common.{◌≡◌, ℕ, ◌≤◌, ◌<◌, ◌^◌, ℤ, pos, List, [], ◌∷◌, ◌++◌, length, take, Option, Some, None, refl, sym, ap, ◌∙◌, subst, append_assoc, arith, codes, All}
-use Rattle.std.specs.Prelude.{nat_abs, slice_set}
+use Rattle.std.proofs.Common.{◌≡◌, ℕ, ◌≤◌, ◌<◌, ◌^◌, ℤ, pos, List, [], ◌∷◌, ◌++◌, length, map, Option, Some, None, refl, sym, ap, ◌∙◌, subst, append_assoc, arith, codes, All}
+use Rattle.std.specs.Prelude.{nat_abs}
 use Rattle.std.specs.Fmt.{decimal}
 use Rattle.std.proofs.lemmas.Int.{ints}
+use Rattle.std.proofs.lemmas.List.{length-map}
 use Rattle.std.proofs.lemmas.List.Elements.{All-head, All-tail}
 use Rattle.cable_definitions.specs.declared.row.RowKind.{RowKind}
 use Rattle.cable_definitions.specs.declared.row.RowKind.TheVariants.{Out, Flow, Inlet, Bend, Power, One, Cut}
@@ -10,18 +11,16 @@ use Rattle.cable_definitions.specs.declared.row.Act.{Act}
 use Rattle.cable_definitions.specs.Numeral.{spelling as spelled}
 use Rattle.cable_definitions.specs.Text.{line, act_line, kind_word, row_line, Whole}
 use Rattle.cable_definitions.specs.Items.{Field, IsWithin, within}
-use Rattle.cable_definitions.specs.Refusal.{RawAct, ASplit, AStop, AFull, ADeadRow, ADeadPair, ADeadLoad, ADeadLoop, ADeadPower, ADeadCeiling, act_spelling, act_from, act_fields, RowLine, WorkLine, ActLine, LayoutLine, member_field, AtItem, AtWeights, AtCables, after_layout}
+use Rattle.cable_definitions.specs.Refusal.{RawAct, ASplit, AStop, AFull, ADeadRow, ADeadPair, ADeadLoad, ADeadLoop, ADeadPower, ADeadCeiling, act_spelling, act_from, act_fields, DocLine, RowLine, WorkLine, ActLine, LayoutLine, member_field, AtItem, AtWeights, AtCables, after_layout}
 use Rattle.cable_text.proofs.Numerals.{numeral-decimal}
 use Rattle.cable_text.specs.Stream.{GivesFront}
 use Rattle.cable_text.specs.Lines.{StandsNext}
-use Rattle.proof_text.specs.declared.judging.ItemLine.{ItemLine}
-use Rattle.proof_text.specs.declared.judging.ItemLine.TheVariants.{Row, Work, Layout}
-use Rattle.proof_text.specs.declared.items.Step.{Step}
-use Rattle.proof_text.specs.declared.items.Step.TheVariants.{Row as RowStep}
-use Rattle.proof_text.specs.Words.{IsCut}
-use Rattle.proof_text.specs.Judged.{IsGoodLine, item_line}
+use Rattle.line_words.specs.declared.judging.ItemLine.{ItemLine}
+use Rattle.line_words.specs.declared.judging.ItemLine.TheVariants.{Row, Work, Layout}
+use Rattle.line_words.specs.Words.{IsCut}
+use Rattle.line_words.specs.Judged.{IsGoodLine, item_line}
 use Rattle.proof_text.specs.Reading.{line_number_after}
-use Rattle.proof_text.specs.Items.{ReadsRow, ReadsItemLine, ReadsAct, ReadsStep}
+use Rattle.proof_text.specs.Items.{ReadsRow, ReadsItemLine, ReadsAct}
 use Rattle.proof_text.proofs.Claims.{spelled_small}
 use Rattle.proof_text.proofs.Streams.{goes_one, line_of_good, line_given}
 
@@ -35,20 +34,28 @@ member_small Power m h = let b = h (pos m) refl in omega (arith, ints, b.1)
 member_small One m h = let b = h (pos m) refl in omega (arith, ints, b.1)
 member_small Cut m h = let b = h (pos m) refl in omega (arith, ints, b.1)
 
+-- members within their range are spelled as they are written
+members_spelled : (kind : RowKind) (ms : List ℕ) → All IsWithin (map (member_field kind) (map pos ms)) → map decimal ms ≡ map spelled (map pos ms)
+members_spelled kind [] h = refl
+members_spelled kind (m ∷ ms) h =
+    let small = member_small kind m (All-head IsWithin (member_field kind (pos m)) (map (member_field kind) (map pos ms)) h) in
+    ap (λ w. w ∷ map decimal ms) (sym (numeral-decimal m (omega (arith, small))))
+    ∙ ap (λ ws. spelled (pos m) ∷ ws) (members_spelled kind ms (All-tail IsWithin (member_field kind (pos m)) (map (member_field kind) (map pos ms)) h))
+
 -- the first line of an item as it was found
 module _ (before after : Option (List ℕ)) (text cut_text : List ℕ) (ws : List (List ℕ)) (found : StandsNext before (Whole text) after) (same : cut_text ≡ text) (cut : IsCut cut_text ws) where
-  pub item_read : (item : ItemLine) → IsGoodLine AtItem ws (item_line item) → ReadsItemLine before after item
-  item_read (Row kind m) good =
-      let small = member_small kind m (All-head IsWithin (member_field kind (pos m)) [] good.limits.0) in
+  pub item_read : (item : ItemLine) (members : List ℕ) → IsGoodLine AtItem ws (item_line item members) → ReadsItemLine before after item members
+  item_read (Row kind) members good =
+      let l : DocLine = RowLine kind (map pos members) in
+      let size : length (map pos members) ≡ length members = length-map members pos in
       record {
-        reads = λ s r e. line_of_good s r AtItem before after text cut_text ws (RowLine kind (pos m ∷ [])) found same cut good e tt;
-        text = line_given AtItem before after text cut_text ws (RowLine kind (pos m ∷ [])) (row_line (record { kind = kind; members = m ∷ [] })) found same cut good.standing
-            (ap (λ w. line (codes "row" ∷ kind_word kind ∷ w ∷ [])) (sym (numeral-decimal m (omega (arith, small)))));
-        some = omega arith;
-        most = omega arith;
-        built = good.standing.allowed;
+        reads = λ s r e. line_of_good s r AtItem before after text cut_text ws l found same cut good e tt;
+        text = line_given AtItem before after text cut_text ws l (row_line (record { kind = kind; members = members })) found same cut good.standing
+            (ap (λ w. line (codes "row" ∷ kind_word kind ∷ w)) (members_spelled kind members good.limits.0));
+        some = omega (arith, size, good.standing.members.0);
+        most = omega (arith, size, good.limits.1);
       }
-  item_read (Work node count) good =
+  item_read (Work node count) members good =
       let most : Field = within (Some (pos count)) (pos 0) (pos 1024) in
       let b = All-head IsWithin (within (Some (pos node)) (pos 1) (pos 100001)) (most ∷ []) good.limits.0 (pos node) refl in
       let d = All-head IsWithin most [] (All-tail IsWithin (within (Some (pos node)) (pos 1) (pos 100001)) (most ∷ []) good.limits.0) (pos count) refl in
@@ -59,7 +66,7 @@ module _ (before after : Option (List ℕ)) (text cut_text : List ℕ) (ws : Lis
             (ap (λ w. line (codes "work" ∷ w ∷ decimal count ∷ [])) (sym (numeral-decimal node (omega (arith, ints, b.1)))) ∙ ap (λ w. line (codes "work" ∷ spelled (pos node) ∷ w ∷ [])) (sym (numeral-decimal count (omega (arith, few))))),
         λ s r e. goes_one s r AtItem before after text cut_text ws (WorkLine (pos node) (pos count)) (record r { phase = AtWeights node count [] }) found same cut good e tt (λ arcs cause f. f) (λ arcs. refl),
       )
-  item_read (Layout count) good =
+  item_read (Layout count) members good =
       let b = All-head IsWithin (within (Some (pos count)) (pos 0) (pos 256)) [] good.limits.0 (pos count) refl in
       let most : count ≤ 256 = omega (arith, ints, b.1) in
       record {
@@ -104,15 +111,3 @@ gives_then (Some bytes) middle after first second h k =
     let P : Option (List ℕ) → Type 0 = λ o. GivesFront o after second in
     let d = subst P h.2 k in
     (d.0, h.1 ∙ ap (λ rest. first ++ rest) d.1 ∙ sym (append_assoc first second d.0), d.2)
-
--- the first member of a list, once it was written
-pub first_written : (xs : List ℕ) (m : ℕ) → 1 ≤ length xs → take 1 (slice_set xs 0 m) ≡ m ∷ []
-first_written [] m h = absurd (omega (arith, h))
-first_written (x ∷ xs) m h = refl
-
--- the row of a step, once its member was written
-pub row_held : (before after : Option (List ℕ)) (old new : ℕ) (weights : List (ℕ × ℤ)) (kind : RowKind) (m : ℕ) (step : Step) (xs : List ℕ) → 1 ≤ length xs → step ≡ RowStep kind m → ReadsStep before after old new weights step → ReadsRow before after kind (take 1 (slice_set xs 0 m)) × (new ≡ line_number_after old 1)
-row_held before after old new weights kind m step xs some e h =
-    let k : ReadsStep before after old new weights (RowStep kind m) = subst (λ d. ReadsStep before after old new weights d) e h in
-    let P : List ℕ → Type 0 = λ ms. ReadsRow before after kind ms in
-    (subst P (sym (first_written xs m some)) k.0, k.1)

@@ -1,15 +1,5 @@
--- the words of a line are what stands between its spaces
-pub mod Splits
--- numbers within and beyond their ranges
-pub mod Ranges
--- words that are none of the shapes of a line
-pub mod Shapes
--- lines that may stand in a place, and their numbers
-pub mod Standing
--- verdicts whose numbers are beyond their ranges
+-- verdicts: their claims, and names that are no turbine's
 pub mod Claims
--- the words of a line tell the line
-pub mod Decoding
 -- what a reader finds by reading a line: a cause, or none
 pub mod Causes
 -- from the lines of a source to what a reader of a document does

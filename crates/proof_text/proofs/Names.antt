@@ -20,8 +20,8 @@ use Rattle.cable_definitions.specs.Text.{name_from, name_of, line, cable_line, W
 use Rattle.cable_definitions.specs.Refusal.{BudgetLine, RowLine, WorkLine, WeightLine, ActLine, LayoutLine, CableLine, ClaimLine, EndLine, line_spelling, Phase, AtCables, AtAnyCables, Reader, IsLineAt, IsWithinLimits, IsInOrder, IsCableOf, after_cable, GoesOn, IsFoundByReading, IsLeastCause}
 use Rattle.cable_text.proofs.Numerals.{numeral-decimal}
 use Rattle.proof_laws.proofs.FullLemma.{within-turbine}
-use Rattle.proof_text.specs.Words.{IsCut}
-use Rattle.proof_text.specs.Judged.{IsStanding, IsGoodLine, IsBad}
+use Rattle.line_words.specs.Words.{IsCut}
+use Rattle.line_words.specs.Judged.{IsStanding, IsGoodLine, IsBad}
 use Rattle.proof_text.specs.Cables.{IsCableNamed, IsAhead, IsNoCable, cables_left, cable_line_words}
 use Rattle.proof_text.proofs.Causes.{line_of, first_layout, bad_refused}
 

@@ -13,10 +13,10 @@ use Rattle.cable_text.specs.declared.fault.Line.TheVariants.{Text, End}
 use Rattle.cable_text.specs.declared.fault.LineFault.{LineFault}
 use Rattle.cable_text.specs.declared.fault.LineFault.TheVariants.{TooLong, NoNewline}
 use Rattle.cable_text.specs.Lines.{ahead, StandsNext, LinesState, ReadsLine, ReadsPiece}
-use Rattle.proof_text.specs.Words.{IsCut}
-use Rattle.proof_text.specs.Judged.{IsStanding, IsGoodLine, IsBad}
+use Rattle.line_words.specs.Words.{IsCut}
+use Rattle.line_words.specs.Judged.{IsStanding, IsGoodLine, IsBad}
 use Rattle.proof_text.specs.Reading.{line_number_after, ReadsTo, ReadsLine, RefusedAfter}
-use Rattle.proof_text.proofs.Decoding.{some_words}
+use Rattle.line_words.proofs.Decoding.{some_words}
 use Rattle.proof_text.proofs.Causes.{first_line, first_missing, first_form, no_line_past, good_readable, bad_refused}
 
 -- a refusal at the next line

@@ -19,9 +19,9 @@ use Rattle.cable_text.specs.Stream.{GivesFront}
 use Rattle.cable_text.specs.Lines.{StandsNext}
 use Rattle.proof_text.specs.declared.fault.ItemFault.{ItemFault}
 use Rattle.proof_text.specs.declared.fault.ItemFault.TheVariants.{Refused, Read}
-use Rattle.proof_text.specs.declared.judging.ItemLine.TheVariants.{Work}
-use Rattle.proof_text.specs.Words.{IsCut}
-use Rattle.proof_text.specs.Judged.{IsGoodLine}
+use Rattle.line_words.specs.declared.judging.ItemLine.TheVariants.{Work}
+use Rattle.line_words.specs.Words.{IsCut}
+use Rattle.line_words.specs.Judged.{IsGoodLine}
 use Rattle.proof_text.specs.Reading.{line_number_after, ReadsTo, RefusedAfter, IfRefused}
 use Rattle.proof_text.specs.Items.{weight_lines, ReadsWork, ReadsItemLine, ReadsWeight, ReadsWeights, ReadsRest}
 use Rattle.proof_text.proofs.Streams.{goes_one, line_given}
@@ -110,9 +110,9 @@ act_refused before middle weights count lines later (Err (Refused x)) h size n k
 act_refused before middle weights count lines later (Err Read) h size n k = tt
 
 -- ---- all lines of a work
-pub work_read : (before middle after : Option (List ℕ)) (node count : ℕ) (weights : List (ℕ × ℤ)) (act : Act) → ReadsItemLine before middle (Work node count) → length weights ≡ count → ReadsRest middle after weights act → ReadsWork before after node weights act
-work_read before middle after node count weights act first size rest =
-    let h : ReadsItemLine before middle (Work node (length weights)) = subst (λ n. ReadsItemLine before middle (Work node n)) (sym size) first in
+pub work_read : (before middle after : Option (List ℕ)) (node count : ℕ) (weights : List (ℕ × ℤ)) (act : Act) (members : List ℕ) → ReadsItemLine before middle (Work node count) members → length weights ≡ count → ReadsRest middle after weights act → ReadsWork before after node weights act
+work_read before middle after node count weights act members first size rest =
+    let h : ReadsItemLine before middle (Work node (length weights)) members = subst (λ n. ReadsItemLine before middle (Work node n) members) (sym size) first in
     let head : List ℕ = line (codes "work" ∷ decimal node ∷ decimal (length weights) ∷ []) in
     let body : List ℕ = concat (map weight_line weights) in record {
       middle = rest.middle;
@@ -130,10 +130,10 @@ work_read before middle after node count weights act first size rest =
     }
 
 -- a refusal behind the first line
-pub rest_refused : (B : Type 0) (fault : ItemFault) (before middle : Option (List ℕ)) (lines later node count : ℕ) → ReadsItemLine before middle (Work node count) → later ≡ line_number_after lines 1
+pub rest_refused : (B : Type 0) (fault : ItemFault) (before middle : Option (List ℕ)) (lines later node count : ℕ) (members : List ℕ) → ReadsItemLine before middle (Work node count) members → later ≡ line_number_after lines 1
     → IfRefused {A = Act} (Err fault) (λ x. (s : Site) (r : Reader) (v : ℕ) → r.phase ≡ AtWeights v count [] → RefusedAfter s r middle later x)
     → IfRefused {A = B} (Err fault) (λ x. (s : Site) (r : Reader) → r.phase ≡ AtItem → RefusedAfter s r before lines x)
-rest_refused B (Refused x) before middle lines later node count h n k = λ s r e.
+rest_refused B (Refused x) before middle lines later node count members h n k = λ s r e.
     let now : Reader = record r { phase = AtWeights node count [] } in
     refused_behind s r now before middle (WorkLine (pos node) (pos count) ∷ []) lines later x (h.3 s r e) n (k s now node refl)
-rest_refused B Read before middle lines later node count h n k = tt
+rest_refused B Read before middle lines later node count members h n k = tt

@@ -1,5 +1,5 @@
 -- What a reader of items holds, and what it does.
-use Rattle.std.specs.Prelude.{◌≡◌, ℕ, suc, ◌+◌, ◌≤◌, ℤ, pos, neg_ℤ, ◌≤ℤ◌, List, [], ◌∷◌, ◌++◌, length, map, codes, Option, Some, None, Result, Ok, Err, IsTrue}
+use Rattle.std.specs.Prelude.{◌≡◌, ℕ, suc, ◌+◌, ◌≤◌, ℤ, pos, neg_ℤ, ◌≤ℤ◌, List, [], ◌∷◌, ◌++◌, length, map, codes, Option, Some, None, Result, Ok, Err}
 use Rattle.std.specs.List.{concat}
 use Rattle.std.specs.Fmt.{decimal}
 use Rattle.cable_definitions.specs.declared.row.RowKind.{RowKind}
@@ -7,17 +7,14 @@ use Rattle.cable_definitions.specs.declared.row.Act.{Act}
 use Rattle.cable_definitions.specs.Site.{Site}
 use Rattle.cable_definitions.specs.Tree.{RowItem, WorkItem}
 use Rattle.cable_definitions.specs.Text.{line, item_lines, weight_line, act_line}
-use Rattle.cable_definitions.specs.Built.{is_built_kind, most_weights}
 use Rattle.cable_definitions.specs.Refusal.{DocLine, RowLine, WorkLine, WeightLine, ActLine, LayoutLine, RawAct, act_from, Reader, AtItem, AtWeights, AtCables}
-use Rattle.branch_tree.specs.declared.work.Work.{Work}
+use Rattle.bound_value.specs.declared.work.Work.{Work}
 use Rattle.cable_text.specs.Stream.{GivesFront}
 use Rattle.proof_text.specs.declared.fault.ItemFault.{ItemFault}
 use Rattle.proof_text.specs.declared.items.Next.{Next}
 use Rattle.proof_text.specs.declared.items.Next.TheVariants.{Row, Work as WorkNext, Layout}
-use Rattle.proof_text.specs.declared.items.Step.{Step}
-use Rattle.proof_text.specs.declared.items.Step.TheVariants.{Row as RowStep, Work as WorkStep, Layout as LayoutStep}
-use Rattle.proof_text.specs.declared.judging.ItemLine.{ItemLine}
-use Rattle.proof_text.specs.declared.judging.ItemLine.TheVariants.{Row as RowItemLine, Work as WorkItemLine, Layout as LayoutItemLine}
+use Rattle.line_words.specs.declared.judging.ItemLine.{ItemLine}
+use Rattle.line_words.specs.declared.judging.ItemLine.TheVariants.{Row as RowItemLine, Work as WorkItemLine, Layout as LayoutItemLine}
 use Rattle.proof_text.specs.Reading.{line_number_after, ReadsTo, ReadsLine}
 
 -- the last row, the last work, and the fault that is kept
@@ -31,15 +28,14 @@ pub record ItemsState : Type 0 where
 abbrev pub weight_lines : List (ℕ × ℤ) → List DocLine
 weight_lines weights = map (λ (r, w). WeightLine (pos r) w) weights
 
--- the line of a row is read, of a kind that is read so far and with 1 to 256 members
+-- the line of a row is read, with 1 to 256 members
 pub record ReadsRow (before after : Option (List ℕ)) (kind : RowKind) (members : List ℕ) : Type 0 where
   pub reads : (s : Site) (r : Reader) → r.phase ≡ AtItem → ReadsLine s r before after (RowLine kind (map pos members))
   pub text : GivesFront before after (item_lines (RowItem (record { kind = kind; members = members })))
   pub some : 1 ≤ length members
   pub most : length members ≤ 256
-  pub built : IsTrue (is_built_kind kind)
 
--- the lines of a work are read, with no more weights than are read so far; `middle` is to come behind its weights
+-- the lines of a work are read; `middle` is to come behind its weights
 pub record ReadsWork (before after : Option (List ℕ)) (node : ℕ) (weights : List (ℕ × ℤ)) (act : Act) : Type 0 where
   pub middle : Option (List ℕ)
   pub reads : (s : Site) (r : Reader) → r.phase ≡ AtItem → ReadsTo s r before middle (WorkLine (pos node) (pos (length weights)) ∷ weight_lines weights) (record r { phase = AtWeights node 0 weights })
@@ -48,19 +44,13 @@ pub record ReadsWork (before after : Option (List ℕ)) (node : ℕ) (weights : 
   pub reads_act : (s : Site) (r : Reader) → r.phase ≡ AtWeights node 0 weights → ReadsLine s r middle after (ActLine raw)
   pub text : GivesFront before after (item_lines (WorkItem node weights act))
   pub first : 1 ≤ node
-  pub few : length weights ≤ most_weights
+  pub few : length weights ≤ 1024
 
 -- the line with the number of cables is read
 pub record ReadsLayoutLine (before after : Option (List ℕ)) (count : ℕ) : Type 0 where
   pub reads : (s : Site) (r : Reader) → r.phase ≡ AtItem → ReadsTo s r before after (LayoutLine (pos count) ∷ []) (record r { phase = AtCables count })
   pub text : GivesFront before after (line (codes "layout" ∷ decimal count ∷ []))
   pub most : count ≤ 256
-
--- what is read of an item, of these weights where it is a work, or of the layout's line, and how many lines
-abbrev pub ReadsStep : Option (List ℕ) → Option (List ℕ) → ℕ → ℕ → List (ℕ × ℤ) → Step → Type 0
-ReadsStep before after old new weights (RowStep kind member) = ReadsRow before after kind (member ∷ []) × (new ≡ line_number_after old 1)
-ReadsStep before after old new weights (WorkStep node act) = ReadsWork before after node weights act × (new ≡ line_number_after old (2 + length weights))
-ReadsStep before after old new weights (LayoutStep count) = ReadsLayoutLine before after count × (new ≡ line_number_after old 1)
 
 -- what a call for the next item reads, how many lines, and what is held then
 abbrev pub ReadsNext : Option (List ℕ) → Option (List ℕ) → ℕ → ℕ → ItemsState → Result Next ItemFault → Type 0
@@ -74,13 +64,13 @@ abbrev pub kept_after : {A : Type 0} → Result A ItemFault → Option ItemFault
 kept_after (Ok a) = None
 kept_after (Err fault) = Some fault
 
--- the first line of an item is read, or the layout's line
-abbrev pub ReadsItemLine : Option (List ℕ) → Option (List ℕ) → ItemLine → Type 0
-ReadsItemLine before after (RowItemLine kind member) = ReadsRow before after kind (member ∷ [])
-ReadsItemLine before after (WorkItemLine node count) =
-    (1 ≤ node) × (count ≤ most_weights) × GivesFront before after (line (codes "work" ∷ decimal node ∷ decimal count ∷ []))
+-- the first line of an item is read, a row with these members, or the layout's line
+abbrev pub ReadsItemLine : Option (List ℕ) → Option (List ℕ) → ItemLine → List ℕ → Type 0
+ReadsItemLine before after (RowItemLine kind) members = ReadsRow before after kind members
+ReadsItemLine before after (WorkItemLine node count) members =
+    (1 ≤ node) × (count ≤ 1024) × GivesFront before after (line (codes "work" ∷ decimal node ∷ decimal count ∷ []))
     × ((s : Site) (r : Reader) → r.phase ≡ AtItem → ReadsTo s r before after (WorkLine (pos node) (pos count) ∷ []) (record r { phase = AtWeights node count [] }))
-ReadsItemLine before after (LayoutItemLine count) = ReadsLayoutLine before after count
+ReadsItemLine before after (LayoutItemLine count) members = ReadsLayoutLine before after count
 
 -- the line of a weight is read, where one is to come; the weight is from -2 ^ 76 to 2 ^ 76
 pub record ReadsWeight (before after : Option (List ℕ)) (weight : ℕ × ℤ) : Type 0 where

@@ -8,22 +8,20 @@ ghost use Rattle.cable_definitions.specs.Site.{IsValid};
 ghost use Rattle.cable_definitions.specs.Refusal.{Reader, DocLine};
 ghost use Rattle.cable_text.specs.Stream.{Rose, GivesFront};
 ghost use Rattle.cable_text.specs.Lines.{ahead};
-ghost use Rattle.proof_text.specs.Words.{held};
-ghost use Rattle.proof_text.specs.Numbers.{Is};
-ghost use Rattle.proof_text.specs.declared.number.Number.TheVariants.{Small};
+ghost use Rattle.line_words.specs.Words.{held};
+ghost use Rattle.line_words.specs.Numbers.{Is};
+ghost use Rattle.line_words.specs.declared.number.Number.TheVariants.{Small};
 ghost use Rattle.proof_text.specs.Cables.{HasNumbersOf, IsCableNamed, IsAhead, IsCableLine, IsNoCable, ReadsCables, cables_left};
 ghost use Rattle.proof_text.specs.Reading.{line_number_after, ReadsTo, RefusedAfter, IfRefused, IfRead};
 
 use crate::fault::ItemFault;
 use crate::named::point_named;
-use crate::number::Number;
 use crate::reading::{next_line, refused};
-use crate::said::cable_said;
-use crate::words::{Words, words_of};
 use cable_definitions::cable::Cable;
 use cable_definitions::claim::Cause;
 use cable_text::{Lines, Source};
 use layout_meaning::Layout;
+use line_words::{Number, Words, cable_said, words_of};
 use site_model::Site;
 
 /// The number of a type of the site.

@@ -1,4 +1,4 @@
-use branch_tree::Refusal;
+use cable_definitions::claim::Refusal;
 use thiserror::Error;
 
 /// Why the lines of a document aren't read further.

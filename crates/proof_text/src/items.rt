@@ -8,17 +8,15 @@ ghost use Rattle.cable_definitions.specs.Text.{line};
 ghost use Rattle.cable_definitions.specs.Refusal.{Reader, BudgetLine, AtBudget, AtItem, AtWeights, RawAct, ActLine, act_from};
 ghost use Rattle.cable_text.specs.Stream.{Rose, GivesFront};
 ghost use Rattle.cable_text.specs.Lines.{ahead};
-ghost use Rattle.proof_text.specs.Items.{ReadsItemLine, ReadsWeight, ReadsWeights, ReadsAct, ReadsRest, ReadsStep, ReadsNext, kept_after};
+ghost use Rattle.proof_text.specs.Items.{ReadsItemLine, ReadsWeight, ReadsWeights, ReadsAct, ReadsRest, ReadsNext, kept_after};
 ghost use Rattle.proof_text.specs.Reading.{line_number_after, ReadsTo, ReadsLine, RefusedAfter, IfRefused, IfRead};
 
 use crate::fault::ItemFault;
-use crate::judging::{ItemLine, act_in, budget_in, item_in, weight_in};
 use crate::reading::{next_line, refused};
-use crate::words::words_of;
-use bound_value::Weights;
-use branch_tree::Work;
+use bound_value::{Weights, Work};
 use cable_definitions::row::{Act, RowKind};
 use cable_text::{Lines, Source};
+use line_words::{ItemLine, MemberList, act_in, budget_in, item_in, weight_in, words_of};
 use std::alloc::{AllocError, Global};
 use std::marker::Model;
 
@@ -27,14 +25,6 @@ use std::marker::Model;
 pub enum Next {
     Row,
     Work,
-    Layout(u32),
-}
-
-/// A row with its one member, a work by its node and its act, or the layout's number of cables.
-#[derive(Clone, Copy)]
-pub enum Step {
-    Row(RowKind, u32),
-    Work(u32, Act),
     Layout(u32),
 }
 
@@ -61,10 +51,15 @@ fn read_budget<S: Source>(lines: &mut Lines, src: &mut S) -> Result<u32, ItemFau
     }
 }
 
-/// Reads the line of a row, the first line of a work, or the layout's line.
-fn read_item<S: Source>(lines: &mut Lines, src: &mut S) -> Result<ItemLine, ItemFault>
+/// Reads the line of a row, whose members `members` holds then, the first line of a work, or the
+/// layout's line.
+fn read_item<S: Source>(
+    lines: &mut Lines,
+    src: &mut S,
+    members: &mut MemberList,
+) -> Result<ItemLine, ItemFault>
     requires { lines.old.kept ≡ None }
-    ensures reads { IfOk result (λ item. ReadsItemLine (ahead lines.old.pending (S.left src.old)) (ahead lines.new.pending (S.left src.new)) item) }
+    ensures reads { IfOk result (λ item. ReadsItemLine (ahead lines.old.pending (S.left src.old)) (ahead lines.new.pending (S.left src.new)) item members.new) }
     ensures kept { OnOk result (lines.new.kept ≡ None) }
     ensures number { OnOk result (lines.new.number ≡ lines.new.lines) }
     ensures lines { OnOk result (lines.new.lines ≡ line_number_after lines.old.lines 1) }
@@ -76,7 +71,7 @@ fn read_item<S: Source>(lines: &mut Lines, src: &mut S) -> Result<ItemLine, Item
     if let Err(fault) = next_line(lines, src) {
         return Err(fault);
     }
-    match item_in(words_of(lines.text())) {
+    match item_in(words_of(lines.text()), members) {
         Ok(item) => Ok(item),
         Err(cause) => Err(refused(lines, cause)),
     }
@@ -187,52 +182,22 @@ fn read_work<S: Source>(
     read_act(lines, src)
 }
 
-/// Reads an item, whose weights `weights` holds then where it is a work, or the layout's line.
-fn read_step<S: Source>(
-    lines: &mut Lines,
-    src: &mut S,
-    weights: &mut Weights,
-) -> Result<Step, ItemFault>
-    requires { lines.old.kept ≡ None }
-    ensures reads { IfOk result (λ step. ReadsStep (ahead lines.old.pending (S.left src.old)) (ahead lines.new.pending (S.left src.new)) lines.old.lines lines.new.lines weights.new step) }
-    ensures kept { OnOk result (lines.new.kept ≡ None) }
-    ensures number { OnOk result (lines.new.number ≡ lines.new.lines) }
-    ensures refused { IfRefused result (λ refusal. (s : SiteValue) (r : Reader) → r.phase ≡ AtItem
-        → RefusedAfter s r (ahead lines.old.pending (S.left src.old)) lines.old.lines refusal) }
-    ensures read { IfRead result (Rose (S.faults src.old) (S.faults src.new)) }
-    ensures count { S.faults src.old ≤ S.faults src.new }
-{
-    match read_item(lines, src) {
-        Ok(ItemLine::Row(kind, member)) => Ok(Step::Row(kind, member)),
-        Ok(ItemLine::Work(node, count)) => match read_work(lines, src, weights, count) {
-            Ok(act) => Ok(Step::Work(node, act)),
-            Err(fault) => Err(fault),
-        },
-        Ok(ItemLine::Layout(count)) => Ok(Step::Layout(count)),
-        Err(fault) => Err(fault),
-    }
-}
-
 /// A reader of the budget and the items of a document. Contracts see the last row, the last work and
 /// the fault that is kept.
 #[derive(Drop)]
 pub struct ItemReader {
     kind: RowKind,
-    members: [u32; 256],
-    count: usize,
+    members: MemberList,
     work: Work,
     fault: Option<ItemFault>,
 }
 
 impl Model for ItemReader {
-    ghost use Rattle.std.specs.Prelude.{◌≤◌, take};
     ghost use Rattle.proof_text.specs.Items.{ItemsState};
 
     ghost Value = { ItemsState };
 
-    ghost view = { λ s. record { kind = s.kind; members = take s.count s.members; work = s.work; kept = s.fault } };
-
-    ghost invariant = { λ s. s.count ≤ 256 };
+    ghost view = { λ s. record { kind = s.kind; members = s.members; work = s.work; kept = s.fault } };
 }
 
 impl ItemReader {
@@ -247,8 +212,7 @@ impl ItemReader {
         let weights = Weights::new(alloc)?;
         Ok(ItemReader {
             kind: RowKind::Out,
-            members: [0; 256],
-            count: 0,
+            members: MemberList::new(),
             work: Work {
                 node: 0,
                 weights,
@@ -270,7 +234,7 @@ impl ItemReader {
         ensures value { result.now ≡ self.now.members }
         ensures most { length self.now.members ≤ 256 }
     {
-        &self.members[..self.count]
+        self.members.as_slice()
     }
 
     /// The last work.
@@ -320,8 +284,8 @@ impl ItemReader {
     ///
     /// The fault that is kept, and then nothing changes. Else `Refused` with the number of the first
     /// line at which a cause holds: `Line` where it is too long, unended or missing, `Form` where it
-    /// is none that may stand there, `Limit` where a number is out of range; `Read` where the source
-    /// failed. The fault is kept.
+    /// is none that may stand there, `Limit` where a number is out of range or a row has more than 256
+    /// members; `Read` where the source failed. The fault is kept.
     pub fn next<S: Source>(&mut self, lines: &mut Lines, src: &mut S) -> Result<Next, ItemFault>
         requires { self.old.kept ≡ None → lines.old.kept ≡ None }
         ensures fault { IfSome self.old.kept (λ fault. (result ≡ Err fault) × (self.new ≡ self.old) × (lines.new ≡ lines.old) × (src.new ≡ src.old)) }
@@ -337,23 +301,44 @@ impl ItemReader {
         if let Some(fault) = self.fault {
             return Err(fault);
         }
-        match read_step(lines, src, &mut self.work.weights) {
-            Ok(Step::Row(kind, member)) => {
-                self.kind = kind;
-                self.members[0] = member;
-                self.count = 1;
-                Ok(Next::Row)
-            }
-            Ok(Step::Work(node, act)) => {
-                self.work.node = node;
-                self.work.act = act;
-                Ok(Next::Work)
-            }
-            Ok(Step::Layout(count)) => Ok(Next::Layout(count)),
+        match self.read_next(lines, src) {
+            Ok(next) => Ok(next),
             Err(fault) => {
                 self.fault = Some(fault);
                 Err(fault)
             }
+        }
+    }
+
+    /// Reads the next item, which the reader holds then, or the line `layout K`, and keeps no fault.
+    fn read_next<S: Source>(&mut self, lines: &mut Lines, src: &mut S) -> Result<Next, ItemFault>
+        requires { lines.old.kept ≡ None }
+        ensures same { self.new.kept ≡ self.old.kept }
+        ensures reads { ReadsNext (ahead lines.old.pending (S.left src.old)) (ahead lines.new.pending (S.left src.new)) lines.old.lines lines.new.lines self.new result }
+        ensures kept { OnOk result (lines.new.kept ≡ None) }
+        ensures number { OnOk result (lines.new.number ≡ lines.new.lines) }
+        ensures refused { IfRefused result (λ refusal. (s : SiteValue) (r : Reader) → r.phase ≡ AtItem
+            → RefusedAfter s r (ahead lines.old.pending (S.left src.old)) lines.old.lines refusal) }
+        ensures read { IfRead result (Rose (S.faults src.old) (S.faults src.new)) }
+        ensures count { S.faults src.old ≤ S.faults src.new }
+    {
+        match read_item(lines, src, &mut self.members) {
+            Ok(ItemLine::Row(kind)) => {
+                self.kind = kind;
+                Ok(Next::Row)
+            }
+            Ok(ItemLine::Work(node, count)) => {
+                match read_work(lines, src, &mut self.work.weights, count) {
+                    Ok(act) => {
+                        self.work.node = node;
+                        self.work.act = act;
+                        Ok(Next::Work)
+                    }
+                    Err(fault) => Err(fault),
+                }
+            }
+            Ok(ItemLine::Layout(count)) => Ok(Next::Layout(count)),
+            Err(fault) => Err(fault),
         }
     }
 }

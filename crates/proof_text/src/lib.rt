@@ -4,12 +4,8 @@
 mod cables;
 mod fault;
 mod items;
-mod judging;
 mod named;
-mod number;
 mod reading;
-mod said;
-mod words;
 
 pub use cables::read_layout;
 pub use fault::ItemFault;

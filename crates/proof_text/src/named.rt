@@ -6,12 +6,12 @@ ghost use Rattle.cable_definitions.specs.Arcs.{kind_of, is_turbine};
 ghost use Rattle.cable_definitions.specs.Text.{name_of};
 ghost use Rattle.cable_definitions.specs.Site.{IsValid};
 ghost use Rattle.cable_definitions.specs.Refusal.{IsClaimOf};
-ghost use Rattle.proof_text.specs.Judged.{verdict_of};
+ghost use Rattle.line_words.specs.Judged.{verdict_of};
 
-use crate::judging::NamedClaim;
-use crate::words::is_word;
 use cable_definitions::claim::Claim;
 use cable_definitions::site::Kind;
+use cable_text::is_word;
+use line_words::NamedClaim;
 use site_model::Site;
 
 /// The number of the point with this name.

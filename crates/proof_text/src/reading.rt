@@ -4,7 +4,6 @@ ghost use Rattle.std.specs.Prelude.{◌≡◌, ◌≤◌, ◌∷◌, ◌++◌, [
 ghost use Rattle.std.specs.Fmt.{decimal};
 ghost use Rattle.cable_definitions.specs.Site.{Site as SiteValue};
 ghost use Rattle.cable_definitions.specs.Document.{IsClaimInRange};
-ghost use Rattle.cable_definitions.specs.Built.{IsBuiltClaim};
 ghost use Rattle.cable_definitions.specs.Text.{line, claim_line, HasNoNewline, Whole};
 ghost use Rattle.cable_definitions.specs.Refusal.{RawClaim, Reader, LayoutLine, ClaimLine, EndLine, AtJudged, AtAnyCables, AtCables, AtLast, Past, may_end, is_allowed, IsClaimOf, DocLine};
 ghost use Rattle.cable_text.specs.Stream.{Rose, GivesFront, IsAtEnd};
@@ -12,12 +11,10 @@ ghost use Rattle.cable_text.specs.Lines.{ahead, StandsNext};
 ghost use Rattle.proof_text.specs.Reading.{line_number_after, ReadsTo, ReadsLine, RefusedAfter, IfRefused, IfRead};
 
 use crate::fault::ItemFault;
-use crate::judging::{claim_in, end_in, layout_in};
 use crate::named::claim_named;
-use crate::words::words_of;
-use branch_tree::Refusal;
-use cable_definitions::claim::{Cause, Claim};
+use cable_definitions::claim::{Cause, Claim, Refusal};
 use cable_text::{Line, LineFault, Lines, Source};
+use line_words::{claim_in, end_in, layout_in, words_of};
 use site_model::Site;
 
 /// The refusal of the last line with this cause.
@@ -98,7 +95,6 @@ pub fn read_claim<S: Source>(
         × ((r : Reader) → r.phase ≡ AtCables 0 → ReadsLine site.now r (ahead lines.old.pending (S.left src.old)) (ahead lines.new.pending (S.left src.new)) (ClaimLine raw))) }
     ensures text { IfOk result (λ claim. GivesFront (ahead lines.old.pending (S.left src.old)) (ahead lines.new.pending (S.left src.new)) (claim_line site.now claim)) }
     ensures range { IfOk result (λ claim. IsClaimInRange claim) }
-    ensures built { IfOk result (λ claim. IsBuiltClaim claim) }
     ensures kept { OnOk result (lines.new.kept ≡ None) }
     ensures number { OnOk result (lines.new.number ≡ lines.new.lines) }
     ensures lines { OnOk result (lines.new.lines ≡ line_number_after lines.old.lines 1) }

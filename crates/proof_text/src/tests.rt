@@ -1,6 +1,5 @@
 use super::*;
-use branch_tree::{Cause, Refusal};
-use cable_definitions::claim::Claim;
+use cable_definitions::claim::{Cause, Claim, Refusal};
 use cable_definitions::row::{Act, RowKind};
 use cable_text::{Lines, MemorySource};
 use site_model::{Mode, RawKind, Site, SiteBuilder, Version};
@@ -50,6 +49,53 @@ fn a_work_with_weights(rt: HostRuntime) -> Result<(), Fail> {
     Ok(())
 }
 
+#[test]
+fn rows_of_sets_and_of_arcs(rt: HostRuntime) -> Result<(), Fail> {
+    let alloc = rt.alloc();
+    let bytes = Vec::from_slice(alloc, b"row cut 1 2 3\nrow one 65279 0\nrow out 255\n")?;
+    let mut source = MemorySource::new(bytes, 5, Vec::new(alloc));
+    let mut lines = Lines::new(alloc)?;
+    let mut reader = ItemReader::new(alloc)?;
+    assert_eq!(rt; reader.next(&mut lines, &mut source), Ok(Next::Row));
+    assert_eq!(rt; reader.kind(), RowKind::Cut);
+    assert_eq!(rt; reader.members(), [1, 2, 3].as_slice());
+    assert_eq!(rt; reader.next(&mut lines, &mut source), Ok(Next::Row));
+    assert_eq!(rt; reader.kind(), RowKind::One);
+    assert_eq!(rt; reader.members(), [65_279, 0].as_slice());
+    assert_eq!(rt; reader.next(&mut lines, &mut source), Ok(Next::Row));
+    assert_eq!(rt; reader.kind(), RowKind::Out);
+    assert_eq!(rt; reader.members(), [255].as_slice());
+    Ok(())
+}
+
+/// The line of a row of a set with so many members.
+fn row_of_many(alloc: Global, count: u32) -> Result<Vec<u8>, Fail> {
+    let mut line = Vec::from_slice(alloc, b"row cut")?;
+    for _ in 0..count {
+        line.extend_from_slice(b" 7")?;
+    }
+    line.push(b'\n')?;
+    Ok(line)
+}
+
+#[test]
+fn rows_of_many_members(rt: HostRuntime) -> Result<(), Fail> {
+    for (count, want) in [
+        (256, Ok(Next::Row)),
+        (
+            257,
+            Err(ItemFault::Refused(Refusal {
+                line: 1,
+                cause: Cause::Limit,
+            })),
+        ),
+    ] {
+        let bytes = row_of_many(rt.alloc(), count)?;
+        assert_eq!(rt; first_item(rt.alloc(), bytes.as_slice())?, want);
+    }
+    Ok(())
+}
+
 /// What is read first where an item may stand.
 fn first_item(alloc: Global, text: &[u8]) -> Result<Result<Next, ItemFault>, Fail> {
     let bytes = Vec::from_slice(alloc, text)?;
@@ -64,11 +110,15 @@ fn causes_of_items(rt: HostRuntime) -> Result<(), Fail> {
     for (text, line, cause) in [
         (b"".as_slice(), 1, Cause::Line),
         (b"row out 1".as_slice(), 1, Cause::Line),
-        (b"row cut 1\n".as_slice(), 1, Cause::Form),
+        (b"row cut\n".as_slice(), 1, Cause::Form),
+        (b"row cut 1  2\n".as_slice(), 1, Cause::Form),
+        (b"row one 70000 x\n".as_slice(), 1, Cause::Form),
+        (b"row cut 0 300\n".as_slice(), 1, Cause::Limit),
         (b"row out 1 2\n".as_slice(), 1, Cause::Form),
         (b"work 100002 x\n".as_slice(), 1, Cause::Form),
         (b"row out 256\n".as_slice(), 1, Cause::Limit),
-        (b"row one 1\n".as_slice(), 1, Cause::Form),
+        (b"row out 1 999\n".as_slice(), 1, Cause::Form),
+        (b"row one 65280\n".as_slice(), 1, Cause::Limit),
         (b"work 1 1025\n".as_slice(), 1, Cause::Limit),
         (b"work 1 1\nby 16384 0\nstop\n".as_slice(), 2, Cause::Limit),
         (

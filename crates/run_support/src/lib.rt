@@ -64,12 +64,7 @@ pub const OPEN: &str =
     "site 1\nmode tree\ntype 200 1\nsubstation S 0 0 1 10000\nturbine A 0 1000 100\nturbine B 1000 0 100\nturbine C 1000 1000 100\nend site\nbudget 1\nwork 1 0\nstop\nlayout 2\ncable A S 0\ncable B A 0\nopen 0 stuck C\nend document\n";
 
 /// The text with one part of it, which stands in it, changed.
-pub fn changed(
-    alloc: Global,
-    text: &str,
-    old: &str,
-    new: &str,
-) -> Result<String, AllocError> {
+pub fn changed(alloc: Global, text: &str, old: &str, new: &str) -> Result<String, AllocError> {
     let mut changed = String::new(alloc);
     if let Some((front, back)) = text.split_once(old) {
         changed.push_str(front)?;

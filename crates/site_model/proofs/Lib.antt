@@ -13,3 +13,9 @@ pub mod Candidates
 pub mod Costs
 pub mod Cheapest
 pub mod Nearest
+-- the largest capacity
+pub mod Capacities
+-- the clash of two pairs of points
+pub mod Clashing
+-- for callers: arcs with the length and the charge of their pairs
+pub mod Measuring

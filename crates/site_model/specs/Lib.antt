@@ -5,3 +5,4 @@ pub mod Stages
 pub mod Building
 pub mod Passing
 pub mod Best
+pub mod Measured

@@ -1,4 +1,4 @@
-pub mod Splitting
+pub mod Fields
 pub mod Writers
 pub mod PointLines
 pub mod SiteLines

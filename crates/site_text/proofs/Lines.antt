@@ -6,9 +6,10 @@ use Rattle.cable_definitions.specs.declared.site.Version.{Version}
 use Rattle.cable_definitions.specs.Text.{IsWord, HasNoNewline, Whole}
 use Rattle.cable_definitions.specs.Items.{RawItem, Stray as AStray, HasWords, IsLineOf, IsItemOf}
 use Rattle.site_text.specs.declared.item.Item.{Item}
-use Rattle.site_text.specs.Words.{parts, are_fields}
+use Rattle.cable_text.specs.Words.{parts}
+use Rattle.site_text.specs.Words.{are_fields}
 use Rattle.site_text.specs.Item.{HaveNoEmpty, IsSaid, IsItemOfLine}
-use Rattle.site_text.proofs.Splitting.{words-parts, parts-words, parts_plain}
+use Rattle.cable_text.proofs.Splitting.{words-parts, parts-words, parts_plain}
 use Rattle.site_text.proofs.Saying.{says_some}
 
 -- a word counts as one field

@@ -5,12 +5,12 @@ ghost use Rattle.std.specs.Option.{option_copied};
 ghost use Rattle.cable_definitions.specs.declared.site.Version.{Version as AnyVersion};
 ghost use Rattle.cable_definitions.specs.Text.{HasNoNewline};
 ghost use Rattle.site_text.specs.Keyword.{keyword_text};
-ghost use Rattle.site_text.specs.Words.{rest_parts};
+ghost use Rattle.cable_text.specs.Words.{rest_parts};
 ghost use Rattle.site_text.specs.Item.{ReadsAs, NamesModeOf, IsSaid, IsItemOfLine};
 
-use crate::keyword::{Keyword, is_word, keyword_of};
-use crate::words::{cut, five_words, four_words, one_word, three_words, two_words};
-use cable_text::{NumberFault, read_number};
+use crate::keyword::{Keyword, keyword_of};
+use crate::words::{five_words, four_words, one_word, three_words, two_words};
+use cable_text::{NumberFault, cut, is_word, read_number};
 use site_model::{Mode, Version};
 
 /// What stands at a point, with its numbers; a number is none where its word spells none, and the

@@ -1,8 +1,10 @@
 //! The words that a line may begin with.
 
-ghost use Rattle.std.specs.Prelude.{◌≡◌, ◌≢◌, ◌↔◌, IsTrue, IfNone, IfSome};
+ghost use Rattle.std.specs.Prelude.{◌≡◌, ◌≢◌, IfNone, IfSome};
 ghost use Rattle.site_text.specs.declared.keyword.Keyword.{Keyword as Key};
 ghost use Rattle.site_text.specs.Keyword.{keyword_text};
+
+use cable_text::is_word;
 
 /// The first word of a line of a site.
 #[derive(Clone, Copy, Debug, PartialEq, Eq)]
@@ -18,13 +20,6 @@ pub enum Keyword {
     Charge,
     Closed,
     End,
-}
-
-// Whether the word is this one.
-pub fn is_word(word: &[u8], text: &[u8]) -> bool
-    ensures { IsTrue result ↔ (word.now ≡ text.now) }
-{
-    word == text
 }
 
 // The keyword that the word is; none where it is none.

@@ -6,7 +6,7 @@ ghost use Rattle.cable_definitions.specs.Text.{line};
 ghost use Rattle.cable_text.specs.Stream.{Writes};
 ghost use Rattle.site_text.specs.Line.{field_text, spaced};
 
-use cable_text::{Failed, Sink, push_number};
+use cable_text::{Failed, LineBuffer, Sink, push_number};
 
 /// A word of a line, or a number in its one spelling.
 #[derive(Clone, Copy)]
@@ -15,13 +15,27 @@ pub enum Field<'a> {
     Number(i128),
 }
 
-/// Appends a line: the first word, the fields with a space before each, and the newline.
+/// Appends a line: the first word, the fields with a space before each, and the newline. A line of at
+/// most 4,096 bytes is pushed as one piece.
 ///
 /// # Errors
 ///
 /// `Failed` only where the count of `out` rose or stands at its last value. Some first part of the
 /// line was appended then.
 pub fn push_line<O: Sink>(word: &[u8], fields: &[Field], out: &mut O) -> Result<(), Failed>
+    ensures { Writes result (O.taken out.old) (O.taken out.new) (O.faults out.old)
+        (O.faults out.new) (line (word.now ∷ map field_text fields.now)) }
+{
+    let mut buffer = LineBuffer::new();
+    match push_pieces(word, fields, &mut buffer) {
+        Ok(()) => out.push(buffer.as_slice()),
+        // A line that doesn't fit is written piece by piece.
+        Err(Failed) => push_pieces(word, fields, out),
+    }
+}
+
+// Appends the first word, the fields with a space before each, and the newline.
+fn push_pieces<O: Sink>(word: &[u8], fields: &[Field], out: &mut O) -> Result<(), Failed>
     ensures { Writes result (O.taken out.old) (O.taken out.new) (O.faults out.old)
         (O.faults out.new) (line (word.now ∷ map field_text fields.now)) }
 {

@@ -2,19 +2,10 @@
 
 ghost use Rattle.std.specs.Prelude.{◌≡◌, ℕ, [], ◌∷◌, suc, true, false, IfNone, IfSome};
 ghost use Rattle.std.specs.Option.{option_copied};
-ghost use Rattle.site_text.specs.Words.{parts, rest_parts, are_fields};
+ghost use Rattle.cable_text.specs.Words.{rest_parts};
+ghost use Rattle.site_text.specs.Words.{are_fields};
 
-// What stands before the first space, and what stands behind it.
-pub fn cut(text: &[u8]) -> (&[u8], Option<&[u8]>)
-    ensures { parts text.now ≡ result.0.now ∷ rest_parts (option_copied result.1) }
-{
-    for (i, byte) in text.iter().enumerate() {
-        if *byte == b' ' {
-            return (&text[..i], Some(&text[i + 1..]));
-        }
-    }
-    (text, None)
-}
+use cable_text::cut;
 
 // The next word, and what follows it; none where there is none, or an empty one.
 fn next_word<'a>(rest: Option<&'a [u8]>) -> Option<(&'a [u8], Option<&'a [u8]>)>

@@ -8,3 +8,7 @@ pub mod GoingRound
 pub mod Straightening
 -- turbines that are refused everywhere
 pub mod Refusing
+-- what a layout costs at least where one cable ends elsewhere
+pub mod Cutting
+-- the straight layout beside an incumbent
+pub mod Comparing

@@ -255,6 +255,10 @@ less_more s arcs cables n bound less arc e below h made =
 pub end_within : (s : Site) (arcs : List Arc) (n : ℕ) (a : Arc) → AreArcs s arcs → slice_get arcs n ≡ Some a → a.to < length s.points
 end_within s arcs n a are e = slice_get_within s.points a.to _ (all-at (λ b. IsCandidate s b.from b.to) arcs n a are.candidates e).to_is
 
+-- and starts in one
+pub start_within : (s : Site) (arcs : List Arc) (n : ℕ) (a : Arc) → AreArcs s arcs → slice_get arcs n ≡ Some a → a.from < length s.points
+start_within s arcs n a are e = slice_get_within s.points a.from _ (all-at (λ b. IsCandidate s b.from b.to) arcs n a are.candidates e).from_is
+
 -- all arcs were tried
 pub after_all : (s : Site) (arcs : List Arc) (cables : List Cable) (n bound : ℕ) → length arcs ≤ n → AllMakeNoneBelow s arcs cables n bound → AllMakeNoneBelow s arcs cables (length arcs) bound
 after_all s arcs cables n bound h below k a w f = below k a (omega arith) f

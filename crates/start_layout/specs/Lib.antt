@@ -4,3 +4,5 @@ pub mod Moves
 pub mod Straight
 -- layouts to begin with
 pub mod Starting
+-- what layouts cost at least that differ in where one cable ends
+pub mod Floors

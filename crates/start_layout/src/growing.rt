@@ -12,15 +12,14 @@ use layout_meaning::{Outgoing, PartialLayout};
 use site_model::Site;
 use std::alloc::{AllocError, Global};
 
-/// An arc out of a turbine, its cost, and what it costs more than a cable to the nearest substation, each at the turbine's own power; how often
-/// the turbine was left over by a growth before; and whether the arc was tried, which is done once.
+/// An arc out of a turbine, its cost, and what it costs more than a cable to the nearest substation, each at the turbine's own power; and whether
+/// the arc was tried, which is done once.
 #[derive(Clone, Copy)]
 pub(crate) struct Choice {
     from: u32,
     to: u32,
     cost: u64,
     extra: i128,
-    urgency: u32,
     tried: bool,
 }
 
@@ -41,13 +40,12 @@ fn way_in_cost(site: &Site, from: u32) -> u64
     least
 }
 
-/// Lists the arcs out of a turbine that was left over so often.
+/// Lists the arcs out of a turbine.
 fn list_choices(
     choices: &mut Vec<Choice>,
     site: &Site,
     arcs: &Arcs,
     turbine: u32,
-    urgency: u32,
 ) -> Result<(), AllocError>
     requires arcs { AreArcs site.now arcs.now }
     requires turbine { turbine < length site.now.points }
@@ -65,7 +63,6 @@ fn list_choices(
                     to,
                     cost,
                     extra: cost as i128 - way_in as i128,
-                    urgency,
                     tried: false,
                 })?;
             }
@@ -74,27 +71,21 @@ fn list_choices(
     Ok(())
 }
 
-/// The arcs out of all turbines: those of the turbines first that were left over most often, then the greatest saving, then the cheapest arc; of
-/// equal ones in their order.
+/// The arcs out of all turbines: the greatest saving first, then the cheapest arc; of equal ones in their order.
 pub(crate) fn all_choices(
     alloc: Global,
     site: &Site,
     arcs: &Arcs,
-    urgencies: &[u32],
 ) -> Result<Vec<Choice>, AllocError>
     requires { AreArcs site.now arcs.now }
 {
     let mut choices = Vec::new(alloc);
     for turbine in 0..site.points().len() as u32 {
         if is_turbine(site, turbine) {
-            let urgency = match urgencies.get(turbine as usize) {
-                None => 0,
-                Some(times) => *times,
-            };
-            list_choices(&mut choices, site, arcs, turbine, urgency)?;
+            list_choices(&mut choices, site, arcs, turbine)?;
         }
     }
-    choices.sort_by_key(|choice| (u32::MAX - choice.urgency, choice.extra, choice.cost))?;
+    choices.sort_by_key(|choice| (choice.extra, choice.cost))?;
     Ok(choices)
 }
 

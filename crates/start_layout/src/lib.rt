@@ -2,6 +2,7 @@
 #![tactic(auto)]
 
 mod circles;
+mod floors;
 mod growing;
 mod settling;
 mod starting;

@@ -5,8 +5,10 @@ ghost use Rattle.cable_definitions.specs.Arcs.{AreArcs};
 ghost use Rattle.cable_definitions.specs.Layout.{KeepsRange, IsLegal, cost as cost_of_all};
 ghost use Rattle.cable_definitions.specs.Part.{IsSettled};
 ghost use Rattle.start_layout.specs.Moves.{MakesLegal, MakesNoneBelow, IsBestMove};
+ghost use Rattle.start_layout.specs.Floors.{IsFloor};
 
 use crate::circles::is_open;
+use crate::floors::{Floor, floor_of, least_cost};
 use crate::types::{cost_at, with_end};
 use candidate_cables::{Arc, Arcs};
 use layout_meaning::{Cable, Layout, Outgoing, Verdict, judge};
@@ -73,22 +75,31 @@ fn settle(site: &Site, arcs: &Arcs, layout: &mut Layout, trial: &mut Layout)
     }
 }
 
-/// The cost, in cost units, of the layout with the arc's end and the cheapest types, which is left in `trial`. None where that isn't legal
-/// or costs no less than the bound.
+/// The cost, in cost units, of the layout with the arc's end and the cheapest types, which is then left in `trial`. None where that isn't legal
+/// or costs no less than the bound; most often the floor at the arc's start and what the arc's own cable costs at least tell.
 fn cost_below(
     site: &Site,
     cables: &[Cable],
     arc: Arc,
+    floor: Floor,
     bound: u64,
     trial: &mut Layout,
 ) -> Option<u64>
     requires few { length cables.now ≤ 256 }
     requires range { (i : ℕ) → KeepsRange site.now cables.now i }
+    requires from { arc.from < length site.now.points }
     requires to { arc.to < length site.now.points }
+    requires floor { IsFloor site.now cables.now floor }
+    requires start { floor.start ≡ arc.from }
     ensures none { IfNone result (MakesNoneBelow site.now cables.now bound arc) }
     ensures some { IfSome result (MakesLegal site.now cables.now arc) }
     ensures below { IfSome result (λ cost. cost < bound) }
 {
+    let price = least_cost(site, arc.from, arc.to, floor.load);
+    let least = floor.others.saturating_add(price);
+    if least >= bound {
+        return None;
+    }
     let loads = with_end(site, cables, arc, trial);
     let cost = cost_at(site, trial.cables(), &loads)?;
     if cost >= bound {
@@ -119,10 +130,16 @@ fn best_move(
     let outgoing = Outgoing::new(cables);
     let mut least = cost;
     let mut best = None;
+    let mut floor = Floor {
+        start: u32::MAX,
+        others: 0,
+        load: 0,
+    };
     for number in 0..arcs.len() {
         let arc = arcs.get(number);
+        floor = floor_of(site, cables, arc.from, floor, trial);
         if is_open(&outgoing, arc) {
-            if let Some(less) = cost_below(site, cables, arc, least, trial) {
+            if let Some(less) = cost_below(site, cables, arc, floor, least, trial) {
                 least = less;
                 best = Some(arc);
             }

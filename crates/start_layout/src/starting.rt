@@ -1,21 +1,19 @@
-//! A layout to begin with, made turbine by turbine.
+//! A layout to begin with: what was searched, the straight layout, or what is grown turbine by turbine.
 
-ghost use Rattle.std.specs.Prelude.{◌≡◌, ℕ, ◌≤◌, ◌⊎◌, List, IfOk};
+ghost use Rattle.std.specs.Prelude.{◌≡◌, ℕ, ◌≤◌, ◌⊎◌, List, IfOk, IfSome, IfNone};
 ghost use Rattle.cable_definitions.specs.declared.cable.Cable.{Cable as ACable};
 ghost use Rattle.cable_definitions.specs.Arcs.{AreArcs};
 ghost use Rattle.cable_definitions.specs.Layout.{IsLegal, cost as cost_of_all};
 ghost use Rattle.cable_definitions.specs.Part.{IsStraight, IsBlocked};
-ghost use Rattle.start_layout.specs.Starting.{AllBlocked, IsStart, IsFoundWithin};
+ghost use Rattle.start_layout.specs.Starting.{AllBlocked, IsStart, IsIncumbent, IsLegalAtMost};
 
 use crate::growing::{all_choices, join_all, join_by_saving};
 use crate::straight::straight_layout;
 use candidate_cables::Arcs;
 use layout_meaning::{Layout, PartialLayout, Verdict, judge};
+use layout_search::search_layout;
 use site_model::Site;
 use std::alloc::{AllocError, Global};
-
-/// How often a growth that got stuck begins anew.
-const MOST_GROWTHS: u32 = 32;
 
 /// A layout to begin with, or a part of one to which some turbine can't be joined.
 #[derive(Drop)]
@@ -26,9 +24,16 @@ pub enum Start {
     Stuck { part: Layout, turbine: u32 },
 }
 
-/// A layout to begin with, grown turbine by turbine by the greatest saving against the cheapest cable to a substation, after Esau and
-/// Williams; or the straight layout, where that is legal and costs less. Where neither is legal it is the part that was grown, with a turbine
-/// that is blocked there; that says nothing of other layouts. An error comes for want of memory alone.
+/// A legal layout, and its cost in cost units.
+#[derive(Drop)]
+pub(crate) struct Incumbent {
+    pub(crate) layout: Layout,
+    pub(crate) cost: u64,
+}
+
+/// A layout to begin with: the cheaper of the straight layout and the one that a search met, where one of them is legal. Else it is grown turbine by
+/// turbine by the greatest saving against the cheapest cable to a substation, after Esau and Williams. Where that isn't legal either it is the part
+/// that was grown, with a turbine that is blocked there; that says nothing of other layouts. An error comes for want of memory alone.
 pub fn greedy(alloc: Global, site: &Site, arcs: &Arcs) -> Result<Start, AllocError>
     requires { AreArcs site.now arcs.now }
     ensures found { IfOk result (λ start. (layout : List ACable) (price : ℕ) → start ≡ Start.Found layout price
@@ -38,52 +43,64 @@ pub fn greedy(alloc: Global, site: &Site, arcs: &Arcs) -> Result<Start, AllocErr
     ensures stuck { IfOk result (λ start. (part : List ACable) (turbine : ℕ) → start ≡ Start.Stuck part turbine
         → IsBlocked site.now part turbine) }
 {
-    let grown = grow(alloc, site, arcs)?;
-    match straight_layout(alloc, site, arcs)? {
-        None => Ok(grown),
-        Some(straight) => Ok(cheaper(site, grown, straight)),
+    let searched = judged(site, search_layout(alloc, site, arcs)?);
+    let straight = straight_layout(alloc, site, arcs)?;
+    match cheaper(site, searched, straight) {
+        None => Ok(grow(alloc, site, arcs)?),
+        Some(incumbent) => Ok(Start::Found(incumbent.layout, incumbent.cost)),
     }
 }
 
-/// The turbine at which a growth got stuck.
-fn stuck_turbine(start: &Start) -> Option<u32> {
-    match start {
-        Start::Found(..) => None,
-        Start::Stuck { turbine, .. } => Some(*turbine),
+/// A layout with its cost. None exactly where there is none or it isn't legal.
+fn judged(site: &Site, layout: Option<Layout>) -> Option<Incumbent>
+    ensures some { IfSome result (IsIncumbent site.now) }
+    ensures none { IfNone result (IfSome layout (λ cables. ¬ (IsLegal site.now cables))) }
+    ensures same { IfSome result (λ incumbent. IfSome layout (λ cables. incumbent.layout ≡ cables)) }
+{
+    match layout {
+        None => None,
+        Some(layout) => match judge(site, &layout) {
+            Verdict::Broken(rule, a, b) => None,
+            Verdict::Legal(cost) => Some(Incumbent { layout, cost }),
+        },
     }
 }
 
-/// What is grown by the greatest saving. Where a turbine is left over, the growth begins anew, and that turbine is joined as early as can be
-/// (squeaky wheel optimisation, after Joslin and Clements).
+/// The cheaper of an incumbent and the straight layout, where one of them is legal.
+fn cheaper(site: &Site, incumbent: Option<Incumbent>, straight: Option<Layout>) -> Option<Incumbent>
+    requires { IfSome incumbent (IsIncumbent site.now) }
+    ensures incumbent { IfSome result (IsIncumbent site.now) }
+    ensures within { IfSome straight (λ cables. IsLegal site.now cables → IsLegalAtMost (cost_of_all site.now cables) result) }
+{
+    match judged(site, straight) {
+        None => incumbent,
+        Some(straight) => Some(lesser(incumbent, straight)),
+    }
+}
+
+/// The cheaper of an incumbent and another one, the first where they cost the same.
+fn lesser(incumbent: Option<Incumbent>, other: Incumbent) -> Incumbent
+    ensures within { result.cost ≤ other.cost }
+    ensures either { (result ≡ other) ⊎ (incumbent ≡ Some result) }
+{
+    match incumbent {
+        None => other,
+        Some(least) => {
+            if other.cost < least.cost {
+                other
+            } else {
+                least
+            }
+        }
+    }
+}
+
+/// What is grown by the greatest saving.
 fn grow(alloc: Global, site: &Site, arcs: &Arcs) -> Result<Start, AllocError>
     requires { AreArcs site.now arcs.now }
     ensures { IfOk result (IsStart site.now) }
 {
-    let mut urgencies = Vec::from_elem(alloc, 0u32, 256)?;
-    let mut start = grow_once(alloc, site, arcs, urgencies.as_slice())?;
-    for attempt in 0..MOST_GROWTHS {
-        let Some(turbine) = stuck_turbine(&start) else {
-            return Ok(start);
-        };
-        if let Some(times) = urgencies.as_mut_slice().get_mut(turbine as usize) {
-            *times = times.saturating_add(1);
-        }
-        start = grow_once(alloc, site, arcs, urgencies.as_slice())?;
-    }
-    Ok(start)
-}
-
-/// What is grown by the greatest saving, those turbines first that were left over so often before.
-fn grow_once(
-    alloc: Global,
-    site: &Site,
-    arcs: &Arcs,
-    urgencies: &[u32],
-) -> Result<Start, AllocError>
-    requires { AreArcs site.now arcs.now }
-    ensures { IfOk result (IsStart site.now) }
-{
-    let mut choices = all_choices(alloc, site, arcs, urgencies)?;
+    let mut choices = all_choices(alloc, site, arcs)?;
     let mut part = PartialLayout::new(alloc, site)?;
     join_by_saving(site, &mut part, choices.as_mut_slice());
     join_all(&mut part, site.points().len() as u32);
@@ -103,34 +120,5 @@ fn start_of(site: &Site, part: PartialLayout) -> Start
             part: layout,
             turbine,
         },
-    }
-}
-
-/// What was grown, or the straight layout where that is legal and costs less.
-fn cheaper(site: &Site, grown: Start, straight: Layout) -> Start
-    requires { IsStart site.now grown }
-    ensures start { IsStart site.now result }
-    ensures within { IsLegal site.now straight → IsFoundWithin (cost_of_all site.now straight) result }
-{
-    match judge(site, &straight) {
-        Verdict::Broken(rule, a, b) => grown,
-        Verdict::Legal(cost) => lesser(grown, straight, cost),
-    }
-}
-
-/// What was grown, or the straight layout where that costs less.
-fn lesser(grown: Start, straight: Layout, cost: u64) -> Start
-    ensures within { IsFoundWithin cost result }
-    ensures either { (result ≡ grown) ⊎ (result ≡ Start.Found straight cost) }
-{
-    match grown {
-        Start::Stuck { part, turbine } => Start::Found(straight, cost),
-        Start::Found(layout, least) => {
-            if cost < least {
-                Start::Found(straight, cost)
-            } else {
-                Start::Found(layout, least)
-            }
-        }
     }
 }

@@ -136,6 +136,27 @@ fn the_straight_layout_is_taken_where_it_costs_less(rt: HostRuntime) -> Result<(
     Ok(())
 }
 
+/// Two feeders; a cable bears two turbines. The straight layout needs four feeders, and a growth joins D behind A, which shuts C off from B.
+#[test]
+fn a_layout_is_searched_where_growth_gets_stuck(rt: HostRuntime) -> Result<(), Fail> {
+    let alloc = rt.alloc();
+    let turbine = RawKind::Turbine(100);
+    let points = [
+        (b"S", 0, 0, RawKind::Substation(2, 10000)),
+        (b"A", 0, 1000, turbine),
+        (b"B", 1100, 1500, turbine),
+        (b"C", -1100, 2500, turbine),
+        (b"D", 0, 3000, turbine),
+    ];
+    let site = site_with(alloc, 200, points.as_slice())?;
+    let arcs = Arcs::new(alloc, &site)?;
+    match greedy(alloc, &site, &arcs)? {
+        Start::Stuck { part, turbine } => assert!(&rt; false),
+        Start::Found(layout, cost) => assert_eq!(rt; cost, 6150),
+    }
+    Ok(())
+}
+
 #[test]
 fn a_turbine_too_many_is_blocked(rt: HostRuntime) -> Result<(), Fail> {
     let alloc = rt.alloc();

@@ -9,7 +9,6 @@ use Rattle.cable_definitions.specs.declared.cable.Arc.{Arc}
 use Rattle.cable_definitions.specs.Site.{Site}
 use Rattle.cable_definitions.specs.Tree.{Item, ProofState, Leads}
 use Rattle.cable_definitions.specs.Text.{item_lines}
-use Rattle.cable_definitions.specs.Built.{IsBuiltItem}
 use Rattle.cable_text.proofs.Writing.{Writes-then, Writes-err, Writes-ok, Writes-nothing}
 use Rattle.cable_text.specs.Stream.{Writes}
 use Rattle.tree_search.specs.Steps.{Advances}
@@ -30,7 +29,6 @@ advances-then {s = s} {arcs} {n} {old} {mid} {new} p q = record {
   items = p.items ++ q.items;
   kept = q.kept;
   leads = leads-then s arcs n old mid q.kept p.items q.items (subst (Leads s arcs n old p.items) p.reached p.leads) q.leads;
-  built = All-append IsBuiltItem p.items q.items p.built q.built;
   writes = subst (Writes _ _ _ _ _) (sym (lines-then p.items q.items)) (Writes-then p.writes q.writes);
   reached = q.reached;
 }
@@ -39,16 +37,16 @@ advances-then {s = s} {arcs} {n} {old} {mid} {new} p q = record {
 pub advances-failed : {A B E F : Type 0} {e : E} {r : Result B F} {s : Site} {arcs : List Arc} {n : ℕ} {old mid new : ProofState} {a b : Option (List ℕ)} {i j : ℕ}
     → IsErr r → Advances {A = A} {E = E} (Err e) s arcs n old mid a b i j → Advances r s arcs n old new a b i j
 advances-failed {r = Ok v} h p = absurd (cc)
-advances-failed {r = Err f} h p = record { items = p.items; kept = p.kept; leads = p.leads; built = p.built; writes = Writes-err f p.writes; reached = tt }
+advances-failed {r = Err f} h p = record { items = p.items; kept = p.kept; leads = p.leads; writes = Writes-err f p.writes; reached = tt }
 
 -- nothing was done
 pub advances-nothing : {A E : Type 0} (u : A) (s : Site) (arcs : List Arc) (n : ℕ) (old : ProofState) (a : Option (List ℕ)) (i : ℕ) → Advances {A = A} {E = E} (Ok u) s arcs n old old a a i i
-advances-nothing u s arcs n old a i = record { items = []; kept = old; leads = refl; built = λ k d l. absurd (omega arith); writes = Writes-nothing u a i; reached = refl }
+advances-nothing u s arcs n old a i = record { items = []; kept = old; leads = refl; writes = Writes-nothing u a i; reached = refl }
 
 -- the same with another value
 pub advances-ok : {A B E F : Type 0} {u : A} (v : B) {s : Site} {arcs : List Arc} {n : ℕ} {old new : ProofState} {a b : Option (List ℕ)} {i j : ℕ}
     → Advances {A = A} {E = E} (Ok u) s arcs n old new a b i j → Advances {A = B} {E = F} (Ok v) s arcs n old new a b i j
-advances-ok v p = record { items = p.items; kept = p.kept; leads = p.leads; built = p.built; writes = Writes-ok v p.writes; reached = p.reached }
+advances-ok v p = record { items = p.items; kept = p.kept; leads = p.leads; writes = Writes-ok v p.writes; reached = p.reached }
 
 -- a fact of a result that went well, from two others
 pub on_ok : {A E P Q R : Type 0} (r : Result A E) → OnOk r P → OnOk r Q → (P → Q → R) → OnOk r R

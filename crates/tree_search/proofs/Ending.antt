@@ -12,7 +12,6 @@ use Rattle.cable_definitions.specs.Arcs.{AreArcs}
 use Rattle.cable_definitions.specs.Row.{Row}
 use Rattle.cable_definitions.specs.Tree.{Node, ProofState, root, empty_state, node_of, Leads, IsAccepted}
 use Rattle.cable_definitions.specs.Text.{item_lines}
-use Rattle.cable_definitions.specs.Built.{IsBuiltClaim}
 use Rattle.branch_tree.specs.State.{TreeState}
 use Rattle.proof_laws.specs.Decided.{HasPointRows}
 use Rattle.proof_laws.proofs.Rising.{unworked-root}
@@ -78,16 +77,10 @@ fresh-advances {r = r} {a} {b} {i} {j} s arcs n p rows fresh advances =
     subst (λ (kept : ProofState). Advances r s arcs n empty_state kept a b i j) (sym (fresh-kept s arcs n p rows fresh)) advances
 
 -- ---- the end
--- a claim of any kind is read
-any_built : (claim : Claim) → IsBuiltClaim claim
-any_built (Optimal best) = tt
-any_built (Gap best bound) = tt
-any_built (Partial bound stuck) = refl
-any_built Infeasible = tt
-
 -- some work is done where a search has ended
 pub some-work : (s : Site) (arcs : List Arc) (n : ℕ) (p : Progress) → IsSearching s arcs n p → IsDone p → p.tree.works ≡ 0 → ⊥
-some-work s arcs n p searching (inr all) no_work = (let limit = searching.limit in let some = searching.some in omega (arith, all, no_work, limit, some))
+some-work s arcs n p searching (inr (inr h)) no_work = (let some = h.0 in omega (arith, some, no_work))
+some-work s arcs n p searching (inr (inl all)) no_work = (let limit = searching.limit in let some = searching.some in omega (arith, all, no_work, limit, some))
 some-work s arcs n p searching (inl none) no_work =
     let alone : p.tree.nodes ≡ root ∷ [] = unworked-root s arcs n searching.items empty_state (kept_of p) searching.accepted (λ e. refl) no_work in
     let count : count_by (λ w. w == 1) p.open_nodes.items ≡ unworked_count (node_of (root ∷ []) 1) = searching.are_open 1 ∙ ap (λ (nodes : List Node). unworked_count (node_of nodes 1)) alone in
@@ -101,7 +94,6 @@ found s arcs n p cables claim advances searching spent outcome = record {
   items = advances.items;
   kept = kept_of p;
   accepted = subst (Leads s arcs n empty_state advances.items) advances.reached advances.leads;
-  built = record { items_built = advances.built; claim_built = any_built claim };
   outcome = outcome;
   floor = λ nearest total. above (searching.floored nearest total);
   written = advances.writes.ok;

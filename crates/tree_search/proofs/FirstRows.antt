@@ -11,7 +11,6 @@ use Rattle.cable_definitions.specs.Site.{Site}
 use Rattle.cable_definitions.specs.Row.{Row, IsWellFormed, RightCount, InRange, has_one_member, member_count}
 use Rattle.cable_definitions.specs.Tree.{RowItem, ProofState, IsListed}
 use Rattle.cable_definitions.specs.Text.{row_line}
-use Rattle.cable_definitions.specs.Built.{IsBuiltItem, is_built_kind}
 use Rattle.cable_text.specs.Stream.{Writes}
 use Rattle.proof_laws.proofs.Boxes.{append_left, append_right}
 use Rattle.proof_laws.proofs.Lists.{one_element}
@@ -48,14 +47,13 @@ pub in-push : (rows : List Row) (row : Row) → IsIn (rows ++ row ∷ []) row
 in-push rows row = (length rows + 0, append_right rows (row ∷ []) 0)
 
 -- a row that is added is an item
-pub advances-row : {E : Type 0} {r : Result (Unit {0}) E} {a b : Option (List ℕ)} {i j : ℕ} (s : Site) (arcs : List Arc) (n : ℕ) (kind : RowKind) (p m : ℕ) (old new : List Row) → IsTrue (is_built_kind kind)
-    → IsWellFormed s arcs (point_row kind p) → new ≡ old ++ point_row kind p ∷ [] → AreFew old m → m ≤ 1024 → Writes r a b i j (row_line (point_row kind p))
+pub advances-row : {E : Type 0} {r : Result (Unit {0}) E} {a b : Option (List ℕ)} {i j : ℕ} (s : Site) (arcs : List Arc) (n : ℕ) (kind : RowKind) (p m : ℕ) (old new : List Row)
+    → IsWellFormed s arcs (point_row kind p) → new ≡ old ++ point_row kind p ∷ [] → AreFew old m → m ≤ 1280 → Writes r a b i j (row_line (point_row kind p))
     → Advances r s arcs n (rows_kept old) (rows_kept new) a b i j
-advances-row {E = E} {r = r} {a} {b} {i} {j} s arcs n kind p m old new built w e f most writes = record {
+advances-row {E = E} {r = r} {a} {b} {i} {j} s arcs n kind p m old new w e f most writes = record {
   items = RowItem (point_row kind p) ∷ [];
   kept = rows_kept new;
   leads = (rows_kept new, listed, refl);
-  built = λ k d l. one k d l;
   writes = subst (Writes r a b i j) (sym (append-nil (row_line (point_row kind p)))) writes;
   reached = same r;
 }
@@ -68,10 +66,6 @@ advances-row {E = E} {r = r} {a} {b} {i} {j} s arcs n kind p m old new built w e
         let x = few.rows_count in
         let y = few.members_count in
         record { well_formed = w; rows_count = omega (arith, x); members_count = omega (arith, y); rows = e; nodes = refl; works = refl }
-
-    one : All IsBuiltItem (RowItem (point_row kind p) ∷ [])
-    one zero d l = built
-    one (suc k) d l = absurd (omega arith)
 
     same : (t : Result (Unit {0}) E) → OnOk t (rows_kept new ≡ rows_kept new)
     same (Ok u) = refl

@@ -1,6 +1,7 @@
 -- The sum of the least costs out of the turbines stays below all bounds.
-use Rattle.std.proofs.Common.{◌≡◌, ◌≢◌, ℕ, zero, suc, inl, inr, ℤ, List, [], ◌∷◌, slice_get, Some, Bool, true, false, refl, sym, ◌∙◌, subst}
+use Rattle.std.proofs.Common.{◌≡◌, ◌≢◌, ℕ, zero, suc, inl, inr, ◌*◌, ◌^◌, ℤ, pos, ◌≤ℤ◌, List, [], ◌∷◌, slice_get, Some, Bool, true, false, refl, sym, ◌∙◌, subst, arith}
 use Rattle.std.specs.Prelude.{cond, ◌==◌}
+use Rattle.std.proofs.lemmas.Int.{ints}
 use Rattle.cable_definitions.specs.declared.cable.Arc.{Arc}
 use Rattle.cable_definitions.specs.declared.row.Mark.{Mark}
 use Rattle.cable_definitions.specs.declared.row.Mark.TheVariants.{Free, Unused}
@@ -8,12 +9,14 @@ use Rattle.cable_definitions.specs.declared.row.Act.{Act}
 use Rattle.cable_definitions.specs.Site.{Site, IsValid}
 use Rattle.cable_definitions.specs.Arcs.{AreArcs}
 use Rattle.cable_definitions.specs.Tree.{Node, Item, WorkItem, ProofState, root, empty_state, node_of, marks_of, IsWorked, IsAccepted}
+use Rattle.layout_laws.proofs.Nearest.{Least-nearest}
 use Rattle.proof_laws.specs.Decided.{HasPointRows}
 use Rattle.proof_laws.proofs.Boxes.{marks_of-at}
 use Rattle.proof_laws.proofs.Sound.{sound-accepted}
-use Rattle.proof_laws.proofs.Rising.{unworked-root, bounds-stay, bounds-nearest}
-use Rattle.turbine_weights.specs.Turbines.{AreTurbineWeights}
+use Rattle.proof_laws.proofs.Rising.{unworked-root, bounds-stay, bounds-first}
+use Rattle.proof_laws.proofs.NearestValue.{value-nearest}
 use Rattle.turbine_weights.proofs.FirstNode.{turbine_weights-out}
+use Rattle.tree_search.specs.Chosen.{BeatTurbines}
 use Rattle.tree_search.specs.Progress.{IsFloored}
 
 -- ---- node 1
@@ -42,11 +45,17 @@ none_unused s arcs n items kept v node accepted none e =
 -- ---- works
 -- a work by the weights of the turbines leaves no bound below the sum of the least costs out of them
 pub floored-after : (s : Site) (arcs : List Arc) (n : ℕ) (items : List Item) (old new : ProofState) (v : ℕ) (weights : List (ℕ × ℤ)) (act : Act) → IsValid s → AreArcs s arcs → IsAccepted s arcs n items old
-    → IsWorked s arcs n old v weights act new → HasPointRows s arcs old.rows → AreTurbineWeights s arcs old.rows (marks_of arcs old.nodes v) weights → IsFloored s old.works old.nodes
+    → IsWorked s arcs n old v weights act new → HasPointRows s arcs old.rows → BeatTurbines s arcs old.rows (marks_of arcs old.nodes v) weights → IsFloored s old.works old.nodes
     → IsFloored s new.works new.nodes
-floored-after s arcs n items old new v weights act valid are accepted work rows turbines floored nearest total = inr (elim (floored nearest total) [
-  | inl none ↦ bounds-nearest s arcs n nearest items [] old new new v weights act valid are total accepted none work
-      (turbine_weights-out s arcs old.rows (marks_of arcs old.nodes v) weights are (sound-accepted s arcs n items old valid are accepted).well_formed rows
-      (none_unused s arcs n items old v work.node accepted none work.made) turbines) refl
+floored-after s arcs n items old new v weights act valid are accepted work rows beats floored nearest total = inr (elim (floored nearest total) [
+  | inl none ↦ bounds-first s arcs n nearest items [] old new new v weights act valid are (Least-nearest s nearest total) accepted none work (reached none) refl
   | inr above ↦ bounds-stay s arcs n nearest items (WorkItem v weights act ∷ []) old new valid are accepted (new, work, refl) above
 ])
+  where
+    reached : old.works ≡ 0 → pos (2 ^ 20 * nearest) ≤ℤ work.value
+    reached none =
+        let out = turbine_weights-out s arcs old.rows (marks_of arcs old.nodes v) beats.turbines are (sound-accepted s arcs n items old valid are accepted).well_formed rows
+        (none_unused s arcs n items old v work.node accepted none work.made) beats.are_turbines in
+        let low = value-nearest s arcs old.rows (marks_of arcs old.nodes v) beats.turbines beats.low nearest out beats.is_low total in
+        let more = beats.at_least work.value work.is_value in
+        omega (arith, ints, low, more)

@@ -1,6 +1,7 @@
 pub mod Advancing
 pub mod FirstRows
 pub mod OpenNodes
+pub mod Aiming
 pub mod InOrder
 pub mod Starting
 pub mod Working

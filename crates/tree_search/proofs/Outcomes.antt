@@ -36,12 +36,13 @@ leaf_kind Stopped o = inr (inl refl)
 leaf_kind WasDead o = absurd (cc)
 leaf_kind WasFull o = inr (inr refl)
 
--- a node that isn't worked, while some of the budget must be left for it
+-- a node that isn't worked and may hold a cheaper layout than the known one, while some of the budget must be left for it
 record IsLeft (p : Progress) : Type 0 where
   place : ℕ
   node : Node
   made : slice_get p.tree.nodes place ≡ Some node
   unworked : node.status ≡ Unworked
+  wanted : ¬ (IsBeaten p.known node.bound)
 
 -- the nodes that are open are as many as that
 open_some : (p : Progress) → AreOpen p.tree.nodes p.open_nodes.items → IsLeft p → p.open_nodes.items ≡ [] → ⊥
@@ -54,7 +55,8 @@ open_some p are left none =
 -- so the budget is spent where the search has ended
 spent-all : (s : Site) (arcs : List Arc) (n : ℕ) (p : Progress) → IsSearching s arcs n p → IsDone p → IsLeft p → p.tree.works ≡ n
 spent-all s arcs n p searching (inl none) left = absurd (open_some p searching.are_open left none)
-spent-all s arcs n p searching (inr all) left = all ∙ searching.limit
+spent-all s arcs n p searching (inr (inl all)) left = all ∙ searching.limit
+spent-all s arcs n p searching (inr (inr h)) left = absurd (left.wanted (h.1 (suc left.place) left.node left.made left.unworked))
 
 -- and it isn't enough
 not-enough : (s : Site) (arcs : List Arc) (n : ℕ) (p : Progress) → IsSearching s arcs n p → IsDone p → IsLeft p → enough_budget arcs ≤ n → ⊥
@@ -84,10 +86,10 @@ least_leaf p bound least =
     let r = any_at (λ (v : Node). IsTrue (is_open_leaf v.status) × (v.bound ≡ bound)) p.tree.nodes least.reached in
     record { place = r.0; node = r.1; made = r.2; leaf = r.3.0; bound_is = r.3.1 }
 
--- it isn't worked, or its bound isn't below the known cost
-least_leaf-kind : (s : Site) (arcs : List Arc) (n : ℕ) (p : Progress) (bound : ℕ) → IsSearching s arcs n p → IsLeastLeaf p bound → IsLeft p ⊎ IsBeaten p.known bound
-least_leaf-kind s arcs n p bound searching l = elim (leaf_kind l.node.status l.leaf) [
-  | inl unworked ↦ inl (record { place = l.place; node = l.node; made = l.made; unworked = unworked })
+-- where its bound is below the known cost, it isn't worked; else it may also be stopped or full
+least_leaf-kind : (s : Site) (arcs : List Arc) (n : ℕ) (p : Progress) (bound : ℕ) → IsSearching s arcs n p → IsLeastLeaf p bound → ¬ (IsBeaten p.known bound) → IsLeft p ⊎ IsBeaten p.known bound
+least_leaf-kind s arcs n p bound searching l below = elim (leaf_kind l.node.status l.leaf) [
+  | inl unworked ↦ inl (record { place = l.place; node = l.node; made = l.made; unworked = unworked; wanted = λ h. below (subst (IsBeaten p.known) l.bound_is h) })
   | inr closed ↦ inr (subst (IsBeaten p.known) l.bound_is (searching.beaten (suc l.place) l.node l.made closed))
 ]
 
@@ -149,7 +151,7 @@ outcome-part s arcs n p cables bound claim searching spent least unknown same is
     leaf = least_leaf p bound least
 
     left : IsLeft p
-    left = elim (least_leaf-kind s arcs n p bound searching leaf) [ inl l ↦ l | inr h ↦ absurd (nothing bound h) ]
+    left = elim (least_leaf-kind s arcs n p bound searching leaf (nothing bound)) [ inl l ↦ l | inr h ↦ absurd (nothing bound h) ]
 
 -- the bound fits
 pub part_small : (s : Site) (arcs : List Arc) (n : ℕ) (p : Progress) (bound : ℕ) → IsSearching s arcs n p → IsLeastBound (kept_of p) bound → bound < 2 ^ 63
@@ -211,7 +213,7 @@ outcome-best s arcs n p cables first bound claim searching spent least known set
     some no_way = HasNone-no_arc s no_way.0 no_way.1 no_way.2 cables is_best.legal
 
     left : bound < best → IsLeft p
-    left l = elim (least_leaf-kind s arcs n p bound searching (least_leaf p bound least)) [ inl h ↦ h | inr h ↦ absurd (let m = below bound h in omega (arith, l, m)) ]
+    left l = elim (least_leaf-kind s arcs n p bound searching (least_leaf p bound least) (λ h. let m = below bound h in omega (arith, l, m))) [ inl h ↦ h | inr h ↦ absurd (let m = below bound h in omega (arith, l, m)) ]
 
     same : best ≤ bound → bound ≡ best
     same l =

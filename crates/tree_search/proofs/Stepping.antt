@@ -17,9 +17,8 @@ use Rattle.proof_laws.specs.Decided.{HasPointRows}
 use Rattle.branch_tree.specs.declared.tree.TreeFault.{TreeFault}
 use Rattle.branch_tree.specs.declared.tree.TreeFault.TheVariants.{Budget, Unmade, Worked}
 use Rattle.branch_tree.specs.State.{TreeState, tree_after}
-use Rattle.turbine_weights.specs.Turbines.{AreTurbineWeights}
 use Rattle.tree_search.specs.Steps.{Advances}
-use Rattle.tree_search.specs.Chosen.{IsActFor, IsNodeBound}
+use Rattle.tree_search.specs.Chosen.{BeatTurbines, IsActFor, IsNodeBound}
 use Rattle.tree_search.specs.Progress.{kept_of, AreOpen, AreBeaten, AreCapped, IsKnown, IsHeldBack, Settles, IsSearching}
 use Rattle.tree_search.specs.declared.progress.Progress.{Progress}
 use Rattle.tree_search.proofs.Advancing.{leads-then}
@@ -51,7 +50,7 @@ pub record IsStep (s : Site) (arcs : List Arc) (p q : Progress) (v : ℕ) (act :
   pub settles : Settles s arcs q.decisions act after p.known p.best q.known q.best
   pub lawful : AreLawful p.pool q.work.weights
   pub few : length q.work.weights ≤ 1024
-  pub weights : AreTurbineWeights s arcs p.pool q.decisions q.work.weights
+  pub weights : BeatTurbines s arcs p.pool q.decisions q.work.weights
 
 -- the node that was taken isn't worked
 pub taken : (s : Site) (arcs : List Arc) (n : ℕ) (p : Progress) (rest : List ℕ) (v : ℕ) → IsSearching s arcs n p → p.open_nodes.items ≡ rest ++ v ∷ []
@@ -155,7 +154,7 @@ step-searching s arcs n p q v act bound after searching step =
       held_back = rw_held;
       floored = floored-after s arcs n searching.items (kept_of p) (kept_of q) v q.work.weights act searching.valid searching.are_arcs searching.accepted
           (step-worked s arcs n p q v act bound after searching step)
-          searching.rows (subst (λ (marks : List Mark). AreTurbineWeights s arcs p.pool marks q.work.weights) step.marks step.weights) searching.floored;
+          searching.rows (subst (λ (marks : List Mark). BeatTurbines s arcs p.pool marks q.work.weights) step.marks step.weights) searching.floored;
     }
   where
     searching_open : p.open_nodes.items ≡ step.rest ++ v ∷ []
@@ -195,7 +194,7 @@ pub is_step : (s : Site) (arcs : List Arc) (p q : Progress) (v : ℕ) (act : Act
     → q.pool ≡ p.pool → count ≡ length p.tree.nodes → ((a : ℕ) → act ≡ Split a → q.open_nodes.items ≡ rest ++ (count + 2) ∷ (count + 1) ∷ [])
     → (((a : ℕ) → ¬ (act ≡ Split a)) → q.open_nodes.items ≡ rest) → vec_capacity q.open_nodes ≡ vec_capacity p.open_nodes
     → Settles s arcs q.decisions act (nat_abs (to_z w128 (of_z w128 after))) p.known p.best q.known q.best
-    → AreLawful p.pool q.work.weights → length q.work.weights ≤ 1024 → AreTurbineWeights s arcs p.pool q.decisions q.work.weights
+    → AreLawful p.pool q.work.weights → length q.work.weights ≤ 1024 → BeatTurbines s arcs p.pool q.decisions q.work.weights
     → IsStep s arcs p q v act (nat_abs bound) (nat_abs after)
 is_step s arcs p q v act bound after rest count left limit stuck popped b0 b1 a0 a1 is marks marks_count chosen tree pool counted split other room settles lawful few_weights turbines =
     let same_bound : nat_abs (to_z w128 (of_z w128 bound)) ≡ nat_abs bound = ap nat_abs (passed bound b0 b1) in

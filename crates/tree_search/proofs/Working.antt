@@ -15,7 +15,6 @@ use Rattle.cable_definitions.specs.Row.{Row}
 use Rattle.cable_definitions.specs.Choice.{AreLawful}
 use Rattle.cable_definitions.specs.Tree.{Unworked, WasSplit, Stopped, WasDead, WasFull, Node, WorkItem, ProofState, node_of, marks_of, worked, child, IsBound, IsActed, IsWorked}
 use Rattle.cable_definitions.specs.Text.{item_lines}
-use Rattle.cable_definitions.specs.Built.{IsBuiltItem}
 use Rattle.cable_text.specs.Stream.{Writes}
 use Rattle.branch_tree.specs.State.{nodes_after}
 use Rattle.proof_laws.proofs.Boxes.{set_either, append_either}
@@ -173,15 +172,10 @@ advances-work {A} {E} {r} {a} {b} {i} {j} s arcs n old new v weights act w write
   items = WorkItem v weights act ∷ [];
   kept = new;
   leads = (new, w, refl);
-  built = λ k d l. one k d l;
   writes = subst (Writes r a b i j) (sym (append-nil (item_lines (WorkItem v weights act)))) writes;
   reached = same r;
 }
   where
-    one : All IsBuiltItem (WorkItem v weights act ∷ [])
-    one zero d l = w.weights_count
-    one (suc k) d l = absurd (omega arith)
-
     same : (t : Result A E) → OnOk t (new ≡ new)
     same (Ok u) = refl
     same (Err x) = tt

@@ -1,5 +1,5 @@
 -- The act that is chosen on a node.
-use Rattle.std.specs.Prelude.{◌≡◌, ℕ, ◌≤◌, ℤ, List, slice_get, Some, None, Option}
+use Rattle.std.specs.Prelude.{◌≡◌, ℕ, ◌≤◌, ℤ, ◌≤ℤ◌, List, slice_get, Some, None, Option}
 use Rattle.cable_definitions.specs.declared.cable.Cable.{Cable}
 use Rattle.cable_definitions.specs.declared.cable.Arc.{Arc}
 use Rattle.cable_definitions.specs.declared.row.Mark.{Mark}
@@ -11,6 +11,7 @@ use Rattle.cable_definitions.specs.Site.{Site}
 use Rattle.cable_definitions.specs.Layout.{cost}
 use Rattle.cable_definitions.specs.Row.{Row}
 use Rattle.cable_definitions.specs.Choice.{IsValue}
+use Rattle.turbine_weights.specs.Turbines.{AreTurbineWeights}
 use Rattle.cable_definitions.specs.Tree.{Node, IsBound, IsDead, IsFull, node_of, marks_of}
 
 -- a cost is known, and the bound isn't below it
@@ -35,3 +36,11 @@ pub record IsNodeBound (s : Site) (arcs : List Arc) (rows : List Row) (nodes : L
   pub value : ℤ
   pub is_value : IsValue s arcs rows (marks_of arcs nodes v) weights value
   pub is_bound : (node : Node) → node_of nodes v ≡ Some node → IsBound node.bound value bound
+
+-- the weights are worth at least as much in the box of these marks as those of the nearest arcs
+pub record BeatTurbines (s : Site) (arcs : List Arc) (rows : List Row) (marks : List Mark) (weights : List (ℕ × ℤ)) : Type 0 where
+  pub turbines : List (ℕ × ℤ)
+  pub are_turbines : AreTurbineWeights s arcs rows marks turbines
+  pub low : ℤ
+  pub is_low : IsValue s arcs rows marks turbines low
+  pub at_least : (value : ℤ) → IsValue s arcs rows marks weights value → low ≤ℤ value

@@ -11,7 +11,6 @@ use Rattle.cable_definitions.specs.Part.{IsStraight}
 use Rattle.cable_definitions.specs.Budget.{IsNearest, enough_budget}
 use Rattle.cable_definitions.specs.Tree.{WasFull, Node, Item, ProofState, node_of, IsAccepted, Agrees}
 use Rattle.cable_definitions.specs.Text.{item_lines}
-use Rattle.cable_definitions.specs.Built.{AreBuilt}
 use Rattle.cable_text.specs.Stream.{Appends, AppendsPrefix}
 use Rattle.run_definitions.specs.Plan.{IsFinal, CostsAtMost, IsSettledFor, HasIsolatedTurbine}
 
@@ -39,7 +38,6 @@ pub record FindsPlan (s : Site) (arcs : List Arc) (n : ℕ) (taken_old taken_new
   pub items : List Item
   pub kept : ProofState
   pub accepted : IsAccepted s arcs n items kept
-  pub built : AreBuilt items claim
   pub outcome : IsOutcome s arcs n kept cables claim
   pub floor : (nearest : ℕ) → IsNearest s nearest → AreAbove nearest kept.nodes
   pub written : Appends taken_old taken_new (concat (map item_lines items))

@@ -6,5 +6,7 @@ pub mod Steps
 pub mod PointRows
 -- the act that is chosen on a node
 pub mod Chosen
+-- the open nodes, and the least of their bounds
+pub mod Open
 -- how far a search is
 pub mod Progress

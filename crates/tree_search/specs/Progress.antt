@@ -129,9 +129,13 @@ Settles s arcs marks (Split a) total known best new_known new_best = (new_known 
 Settles s arcs marks Stop total known best new_known new_best = (new_known ≡ known) × (new_best ≡ best)
 Settles s arcs marks (Dead why) total known best new_known new_best = (new_known ≡ known) × (new_best ≡ best)
 
--- no node is open, or as many works were done as the budget has
+-- no layout in the box of a node that isn't worked can cost less than the known one: each has at least the known cost as its bound
+abbrev pub AreOpenBeaten : Option ℕ → List Node → Type 0
+AreOpenBeaten known nodes = (v : ℕ) (node : Node) → node_of nodes v ≡ Some node → node.status ≡ Unworked → IsBeaten known node.bound
+
+-- no node is open; or as many works were done as the budget has; or some work was done, and no open node can hold a cheaper layout
 abbrev pub IsDone : Progress → Type 0
-IsDone p = (p.open_nodes.items ≡ []) ⊎ (p.tree.works ≡ p.budget)
+IsDone p = (p.open_nodes.items ≡ []) ⊎ ((p.tree.works ≡ p.budget) ⊎ ((1 ≤ p.tree.works) × AreOpenBeaten p.known p.tree.nodes))
 
 -- a settled layout in ascending order of start with this cost, which is at most that of the first one
 pub record IsSettledBest (s : Site) (first cables : List Cable) (best : ℕ) : Type 0 where

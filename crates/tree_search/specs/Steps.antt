@@ -6,7 +6,6 @@ use Rattle.cable_definitions.specs.Site.{Site}
 use Rattle.cable_definitions.specs.Row.{Row}
 use Rattle.cable_definitions.specs.Tree.{Item, ProofState, empty_state, Leads}
 use Rattle.cable_definitions.specs.Text.{item_lines}
-use Rattle.cable_definitions.specs.Built.{IsBuiltItem}
 use Rattle.cable_text.specs.Stream.{Writes}
 
 -- what rows alone leave behind
@@ -18,6 +17,5 @@ pub record Advances {A E : Type 0} (result : Result A E) (s : Site) (arcs : List
   pub items : List Item
   pub kept : ProofState
   pub leads : Leads s arcs n old items kept
-  pub built : All IsBuiltItem items
   pub writes : Writes result taken_old taken_new faults_old faults_new (concat (map item_lines items))
   pub reached : OnOk result (kept ≡ new)

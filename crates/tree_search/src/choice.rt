@@ -6,17 +6,18 @@ ghost use Rattle.cable_definitions.specs.Arcs.{AreArcs};
 ghost use Rattle.cable_definitions.specs.Tree.{marks_of};
 ghost use Rattle.cable_definitions.specs.Row.{IsWellFormed};
 ghost use Rattle.cable_definitions.specs.Choice.{AreLawful};
-ghost use Rattle.turbine_weights.specs.Turbines.{AreTurbineWeights};
 ghost use Rattle.proof_laws.specs.Decided.{HasPointRows};
 ghost use Rattle.branch_tree.specs.State.{IsMade};
-ghost use Rattle.tree_search.specs.Chosen.{IsBeaten, IsActFor, IsNodeBound};
+ghost use Rattle.tree_search.specs.Chosen.{BeatTurbines, IsBeaten, IsActFor, IsNodeBound};
 
-use bound_value::{Decisions, Mark, Weights, rounded_bound, weigh};
-use branch_tree::{Act, Tree, find_dead, is_full};
+use crate::node_weights::weigh_node;
+use bound_value::{Decisions, Mark, Weights, rounded_bound};
+use branch_tree::{Act, Tree};
 use cable_rows::RowPool;
 use candidate_cables::Arcs;
+use node_reasons::{find_dead, is_full};
 use site_model::Site;
-use turbine_weights::weigh_turbines;
+use std::alloc::Global;
 
 /// An act on a node, and the bound that the node has after it, in cost units.
 #[derive(Clone, Copy)]
@@ -25,9 +26,15 @@ pub(crate) struct Choice {
     pub(crate) bound: i128,
 }
 
-/// Marks the arcs as a node decides them, weighs the rows of the turbines there, and answers the bound that the weights give the node, in
-/// cost units.
+/// How many turns improve the weights of a node: more in node 1, whose weights the others begin with.
+fn turns_of(node: u32) -> u32 {
+    if node == 1 { 8 } else { 2 }
+}
+
+/// Marks the arcs as a node decides them, weighs its rows, from the weights of the last work, and answers the bound that the weights give the node,
+/// in cost units.
 pub(crate) fn bound_of(
+    alloc: Global,
     site: &Site,
     arcs: &Arcs,
     pool: &RowPool,
@@ -45,15 +52,13 @@ pub(crate) fn bound_of(
     ensures marks_count { length decisions.new ≡ length arcs.now }
     ensures lawful { AreLawful pool.now weights.new }
     ensures few { length weights.new ≤ 1024 }
-    ensures weights { AreTurbineWeights site.now arcs.now pool.now decisions.new weights.new }
+    ensures weights { BeatTurbines site.now arcs.now pool.now decisions.new weights.new }
     ensures bound { IsNodeBound site.now arcs.now pool.now tree.now.nodes node weights.new (unsigned_abs result) }
     ensures not_negative { pos 0 ≤ℤ result }
     ensures small { result <ℤ pos (2 ^ 100) }
 {
     tree.decisions(node, decisions);
-    weigh_turbines(site, arcs, pool, decisions, weights);
-    let _few = weights.as_slice();
-    let value = weigh(site, arcs, pool, decisions, weights);
+    let value = weigh_node(alloc, site, arcs, pool, decisions, turns_of(node), weights);
     rounded_bound(tree.bound(node), value)
 }
 

@@ -53,8 +53,9 @@ impl From<Failed> for SearchFault {
 /// the budget has. It begins with a settled layout, where the greedy growth or the straight layout gives a legal one, and stops at each
 /// node that is neither dead nor full and whose bound isn't below the least cost so far.
 ///
-/// Appends each row and each work to `out` when it is made: first the rows of the turbines, of the points
-/// and of the bends, then the works, the last made open node first.
+/// Appends each row and each work to `out` when it is made: first the rows of single points, on their cables and on their loads, then the works, the
+/// last made open node first. A node is bounded by dual weights, which `dual_weights::improve` raises from the better of the last work's and those of the
+/// nearest arcs, by 8 turns in node 1 and by 2 in another node.
 ///
 /// It ends where no node is open, with the cheapest layout or the claim that there is none; or where the budget is spent, with the
 /// cheapest layout so far, settled, and the least bound, or with the grown part where no layout was found.
@@ -79,6 +80,6 @@ pub fn search<O: Sink>(
     ensures count { O.faults out.old ≤ O.faults out.new }
 {
     let mut progress = Progress::new(alloc, site, arcs, budget)?;
-    progress.run(site, arcs, out)?;
+    progress.run(alloc, site, arcs, out)?;
     Ok(progress.into_plan(alloc, site, arcs)?)
 }

@@ -3,6 +3,8 @@
 
 mod choice;
 mod finding;
+mod node_weights;
+mod open;
 mod outcome;
 mod progress;
 mod rows;

@@ -7,7 +7,7 @@ ghost use Rattle.tree_search.specs.Progress.{IsSettledClaim, IsClaimedOf};
 
 use crate::finding::Plan;
 use crate::start::settle_layout;
-use branch_tree::Claim;
+use cable_definitions::claim::Claim;
 use candidate_cables::Arcs;
 use layout_meaning::Layout;
 use site_model::Site;

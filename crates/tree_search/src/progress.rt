@@ -1,7 +1,9 @@
 //! How far a search is, and one work of it.
 
 ghost use Rattle.std.specs.Prelude.{◌≡◌, ℕ, ◌+◌, ◌^◌, ◌≤◌, ◌<◌, [], ◌∷◌, ◌++◌, List, length, false, pos, ◌≤ℤ◌, ◌<ℤ◌, unsigned_abs, IsTrue, IfOk, OnOk, vec_capacity};
+ghost use Rattle.cable_definitions.specs.declared.cable.Arc.{Arc as AnArc};
 ghost use Rattle.cable_definitions.specs.declared.cable.Cable.{Cable};
+ghost use Rattle.cable_definitions.specs.Site.{Site as ASite};
 ghost use Rattle.cable_definitions.specs.Arcs.{AreArcs};
 ghost use Rattle.cable_definitions.specs.Layout.{cost as cost_of_all};
 ghost use Rattle.cable_definitions.specs.Tree.{IsFull, empty_state};
@@ -11,15 +13,17 @@ ghost use Rattle.tree_search.specs.Progress.{kept_of, IsFresh, IsSearching, IsDo
 
 use crate::choice::{Choice, bound_of, choose, is_beaten};
 use crate::finding::Plan;
+use crate::open::bring_first_last;
 use crate::outcome::{no_layout, part_claim, settled_plan};
 use crate::rows::list_first_rows;
 use crate::start::first_best;
-use bound_value::{Decisions, Weights};
-use branch_tree::{Act, Tree, Work, full_layout};
+use bound_value::{Decisions, Weights, Work};
+use branch_tree::{Act, Tree};
 use cable_rows::RowPool;
 use cable_text::{Failed, Sink};
 use candidate_cables::Arcs;
 use layout_meaning::Layout;
+use node_reasons::full_layout;
 use proof_lines::write_work;
 use site_model::Site;
 use std::alloc::{AllocError, Global};
@@ -110,7 +114,7 @@ fn settle(
 }
 
 impl Progress {
-    /// A search that has worked no node yet, and knows the layout to begin with. All memory of the search is taken here.
+    /// A search that has worked no node yet, and knows the layout to begin with. Its lists have their room from here on.
     ///
     /// # Errors
     ///
@@ -151,7 +155,13 @@ impl Progress {
     /// # Errors
     ///
     /// `Failed` only where the count of `out` rose or stands at its last value; a first part of the work was appended then.
-    fn step<O: Sink>(&mut self, site: &Site, arcs: &Arcs, out: &mut O) -> Result<bool, Failed>
+    fn step<O: Sink>(
+        &mut self,
+        alloc: Global,
+        site: &Site,
+        arcs: &Arcs,
+        out: &mut O,
+    ) -> Result<bool, Failed>
         requires arcs { AreArcs site.now arcs.now }
         requires searching { (n : ℕ) × IsSearching site.now arcs.now n self.old }
         ensures advances { (n : ℕ) → IsSearching site.now arcs.now n self.old
@@ -167,6 +177,7 @@ impl Progress {
             return Ok(false);
         };
         let bound = bound_of(
+            alloc,
             site,
             arcs,
             &self.pool,
@@ -205,12 +216,32 @@ impl Progress {
         Ok(true)
     }
 
-    /// Works open nodes until none is left or the budget is spent.
+    /// Brings the open node that is worked first to the end of the list, where it is taken next, and answers whether it is worked: a node whose bound
+    /// isn't below the known cost is left as it is, once node 1 was worked, and so are all others then.
+    fn aim(&mut self) -> bool
+        ensures searching { (s : ASite) (arcs : List AnArc) (n : ℕ) → IsSearching s arcs n self.old → IsSearching s arcs n self.new }
+        ensures kept { kept_of self.new ≡ kept_of self.old }
+        ensures tree { self.new.tree ≡ self.old.tree }
+        ensures spent { result ≡ false → (s : ASite) (arcs : List AnArc) (n : ℕ) → IsSearching s arcs n self.old → IsDone self.new }
+    {
+        match bring_first_last(&mut self.open_nodes, &self.tree) {
+            None => true,
+            Some(bound) => self.tree.works() == 0 || !is_beaten(self.known, bound),
+        }
+    }
+
+    /// Works open nodes, those of least bound first, until none is left that may hold a cheaper layout than the known one, or the budget is spent.
     ///
     /// # Errors
     ///
     /// `Failed` only where the count of `out` rose or stands at its last value; a first part of the works was appended then.
-    fn work_all<O: Sink>(&mut self, site: &Site, arcs: &Arcs, out: &mut O) -> Result<(), Failed>
+    fn work_all<O: Sink>(
+        &mut self,
+        alloc: Global,
+        site: &Site,
+        arcs: &Arcs,
+        out: &mut O,
+    ) -> Result<(), Failed>
         requires arcs { AreArcs site.now arcs.now }
         requires searching { (n : ℕ) × IsSearching site.now arcs.now n self.old }
         ensures advances { (n : ℕ) → IsSearching site.now arcs.now n self.old
@@ -218,7 +249,7 @@ impl Progress {
         ensures searching { OnOk result ((n : ℕ) → IsSearching site.now arcs.now n self.old → IsSearching site.now arcs.now n self.new) }
         ensures spent { OnOk result (IsDone self.new) }
     {
-        while self.step(site, arcs, out)? {}
+        while self.aim() && self.step(alloc, site, arcs, out)? {}
         Ok(())
     }
 
@@ -229,6 +260,7 @@ impl Progress {
     /// `Failed` only where the count of `out` rose or stands at its last value; a first part of the items was appended then.
     pub(crate) fn run<O: Sink>(
         &mut self,
+        alloc: Global,
         site: &Site,
         arcs: &Arcs,
         out: &mut O,
@@ -242,7 +274,7 @@ impl Progress {
     {
         let _valid = site.points();
         list_first_rows(site, arcs, &mut self.pool, out)?;
-        self.work_all(site, arcs, out)
+        self.work_all(alloc, site, arcs, out)
     }
 
     /// What the search ends with: the cheapest layout so far, settled, and the claim that the least bound of a leaf that isn't dead allows; the part

@@ -3,7 +3,6 @@
 ghost use Rattle.std.specs.Prelude.{◌≡◌, ℕ, ◌+◌, ◌<◌, ◌≤◌, [], length, IsTrue, OnOk};
 ghost use Rattle.cable_definitions.specs.Arcs.{AreArcs};
 ghost use Rattle.cable_definitions.specs.Row.{IsWellFormed};
-ghost use Rattle.cable_definitions.specs.Built.{is_built_kind};
 ghost use Rattle.proof_laws.specs.Decided.{HasPointRows};
 ghost use Rattle.tree_search.specs.Steps.{rows_kept, Advances};
 ghost use Rattle.tree_search.specs.PointRows.{point_row, AreFew, IsIn, AreStillIn, AreIn};
@@ -24,8 +23,7 @@ fn list_row<O: Sink>(
     out: &mut O,
 ) -> Result<(), Failed>
     requires arcs { AreArcs site.now arcs.now }
-    requires built { IsTrue (is_built_kind kind) }
-    requires few { AreFew pool.old 1024 }
+    requires few { AreFew pool.old 1280 }
     ensures advances { (n : ℕ) → Advances result site.now arcs.now n (rows_kept pool.old) (rows_kept pool.new) (O.taken out.old) (O.taken out.new) (O.faults out.old) (O.faults out.new) }
     ensures few { (m : ℕ) → AreFew pool.old m → AreFew pool.new (m + 1) }
     ensures still { AreStillIn pool.old pool.new }
@@ -53,8 +51,7 @@ fn list_rows_of<O: Sink>(
     out: &mut O,
 ) -> Result<(), Failed>
     requires arcs { AreArcs site.now arcs.now }
-    requires built { IsTrue (is_built_kind kind) }
-    requires few { AreFew pool.old 768 }
+    requires few { AreFew pool.old 1024 }
     ensures advances { (n : ℕ) → Advances result site.now arcs.now n (rows_kept pool.old) (rows_kept pool.new) (O.taken out.old) (O.taken out.new) (O.faults out.old) (O.faults out.new) }
     ensures few { OnOk result ((m : ℕ) → AreFew pool.old m → AreFew pool.new (m + 256)) }
     ensures still { OnOk result (AreStillIn pool.old pool.new) }
@@ -67,7 +64,8 @@ fn list_rows_of<O: Sink>(
     Ok(())
 }
 
-/// Lists and writes the well-formed rows of the turbines, of the points and of the bends.
+/// Lists and writes the well-formed rows on the cables and on the loads of single points: those of the turbines, of the points, of the bends, of the
+/// loads of turbines and bends, and of the power of the substations.
 pub(crate) fn list_first_rows<O: Sink>(
     site: &Site,
     arcs: &Arcs,
@@ -81,5 +79,7 @@ pub(crate) fn list_first_rows<O: Sink>(
 {
     list_rows_of(site, arcs, pool, RowKind::Out, out)?;
     list_rows_of(site, arcs, pool, RowKind::Inlet, out)?;
-    list_rows_of(site, arcs, pool, RowKind::Bend, out)
+    list_rows_of(site, arcs, pool, RowKind::Bend, out)?;
+    list_rows_of(site, arcs, pool, RowKind::Flow, out)?;
+    list_rows_of(site, arcs, pool, RowKind::Power, out)
 }

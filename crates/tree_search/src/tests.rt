@@ -89,25 +89,26 @@ const CORNERS: [RawPoint; 3] = [
     (b'C', 1000, 1000, RawKind::Turbine(100)),
 ];
 
-/// One work proves the sum of the least costs out of the turbines; a part is left where no layout is known.
+/// One work proves what the rows of single points say, which is more than the least costs out of the turbines, 1,500; a part is left where no layout is
+/// known.
 #[test]
 fn one_work(rt: HostRuntime) -> Result<(), Fail> {
     let alloc = rt.alloc();
     let fork = site_of(alloc, Mode::Tree, 400, 1, &[SUBSTATION, NEAR, LEFT, RIGHT])?;
     let gap = Claim::Gap {
         cost: 2000,
-        bound: 1500,
+        bound: 1875,
     };
     assert_eq!(&rt; claim_of(alloc, &fork, 1)?, gap);
 
-    let one_feeder = (b'S', 0, 0, RawKind::Substation(1, 10000));
+    let little_power = (b'S', 0, 0, RawKind::Substation(4, 250));
     let [first, second, third] = CORNERS;
     let square = site_of(
         alloc,
         Mode::Tree,
-        200,
+        400,
         1,
-        &[one_feeder, first, second, third],
+        &[little_power, first, second, third],
     )?;
     let open = Claim::Partial {
         bound: 3000,
@@ -123,7 +124,8 @@ fn one_work(rt: HostRuntime) -> Result<(), Fail> {
 
 /// The items of a turbine 500 metres from its substation: the layout to begin with costs what the weight
 /// of node 1 proves.
-const ITEMS: &str = "row out 1\nrow inlet 0\nrow inlet 1\nwork 1 1\nby 0 52428800000\nstop\n";
+const ITEMS: &str =
+    "row out 1\nrow inlet 0\nrow inlet 1\nrow flow 1\nrow power 0\nwork 1 1\nby 0 52428800000\nstop\n";
 
 #[test]
 fn one_turbine(rt: HostRuntime) -> Result<(), Fail> {
@@ -156,7 +158,7 @@ fn a_failing_sink_ends_the_search(rt: HostRuntime) -> Result<(), Fail> {
     }
     assert_eq!(&rt;
         out.taken(),
-        b"row out 1\nrow inlet 0\nrow inlet 1\nwork 1 1\nby 0 52".as_slice()
+        b"row out 1\nrow inlet 0\nrow inlet 1\nrow flow 1\nrow p".as_slice()
     );
     Ok(())
 }

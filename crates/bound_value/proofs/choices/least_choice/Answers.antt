@@ -4,18 +4,16 @@ use Rattle.std.proofs.lemmas.Int.{to_z-of_z}
 use Rattle.cable_definitions.specs.declared.cable.Arc.{Arc}
 use Rattle.cable_definitions.specs.declared.row.Mark.{Mark}
 use Rattle.cable_definitions.specs.declared.row.Mark.TheVariants.{Free, Used}
-use Rattle.cable_definitions.specs.Arcs.{IsCandidate}
 use Rattle.cable_definitions.specs.Choice.{IsExtreme, AtMost}
-use Rattle.layout_laws.proofs.Typing.{all-at}
 use Rattle.bound_value.specs.Least.{left_over}
-use Rattle.bound_value.proofs.LeastUses.{free_left, extreme_small, extreme_read}
+use Rattle.bound_value.proofs.LeastUses.{is_arc, free_left, extreme_small, extreme_read}
 use Rattle.bound_value.proofs.choices.least_choice.Goals as goal
 
 pub least_used-requires-clause-arc : goal.least_used-requires-clause-arc
-least_used-requires-clause-arc c = all-at (λ (a : Arc). IsCandidate c.args.site.now a.from a.to) c.args.arcs.now c.args.arc c.get-arc.result c.requires.arcs.candidates c.get-arc.ensures
+least_used-requires-clause-arc c = is_arc c.args.site.now c.args.arcs.now c.args.arc c.get-arc.result c.requires.arcs c.get-arc.ensures
 
 pub least_used-requires-in-Free-clause-arc : goal.least_used-requires-in-Free-clause-arc
-least_used-requires-in-Free-clause-arc c = all-at (λ (a : Arc). IsCandidate c.args.site.now a.from a.to) c.args.arcs.now c.args.arc c.get-arc.result c.requires.arcs.candidates c.get-arc.ensures
+least_used-requires-in-Free-clause-arc c = is_arc c.args.site.now c.args.arcs.now c.args.arc c.get-arc.result c.requires.arcs c.get-arc.ensures
 
 pub returns-in-Used-clause-small : goal.returns-in-Used-clause-small
 returns-in-Used-clause-small c =

@@ -4,18 +4,16 @@ use Rattle.std.proofs.lemmas.Int.{to_z-of_z}
 use Rattle.cable_definitions.specs.declared.site.CableType.{CableType}
 use Rattle.cable_definitions.specs.Arcs.{capacity_of, capacity_from}
 use Rattle.site_model.proofs.Costs.{type_is}
-use Rattle.site_model.proofs.Nearest.{cost_small}
 use Rattle.bound_value.specs.Least.{IsBestLoad}
 use Rattle.bound_value.proofs.LeastUses.{best_of_type}
 use Rattle.bound_value.proofs.choices.least_of_type.Goals as goal
 
-pub left_of-requires-clause-cost : goal.left_of-requires-clause-cost
-left_of-requires-clause-cost c =
+pub cost_along-cost-requires-clause-bears : goal.cost_along-cost-requires-clause-bears
+cost_along-cost-requires-clause-bears c =
     let s = c.args.site.now in
     let none : CableType = record { capacity = 0; price = 0; loss = 0 } in
     let capacity = ap capacity_from (type_is s c.types.result.now c.args.grade none c.types.ensures.value c.requires.bears.listed) in
-    let small = cost_small s c.args.arc.from c.args.arc.to c.args.grade c.best_load-load.result c.types.ensures.valid (record { listed = c.requires.bears.listed; enough = omega (arith, capacity, c.best_load-load.ensures.at_most) }) in
-    omega (arith, small, c.arc_cost-cost.ensures)
+    record { listed = c.requires.bears.listed; enough = omega (arith, capacity, c.best_load-load.ensures.at_most) }
 
 pub returns : goal.returns
 returns c =
@@ -31,5 +29,5 @@ returns c =
     let u_is = to_z-of_z w128 u c.ranges.on_use in
     let best = subst (λ (z : ℤ). IsBestLoad c.args.least capacity z load) w_is c.best_load-load.ensures in
     let left = to_z-of_z w128 c.left_of.result (record { sfits = c.left_of.type_inv })
-    ∙ (c.left_of.ensures ∙ (λ i. (pos (2 ^ 20 * c.arc_cost-cost.result) -ℤ u_is i *ℤ pos 1) -ℤ w_is i *ℤ pos load)) in
-    best_of_type s a u w c.args.grade c.args.least load capacity c.arc_cost-cost.result _ c.types.ensures.valid c.requires.least c.requires.bears.listed (sym capacity_is) c.arc_cost-cost.ensures left best
+    ∙ (c.left_of.ensures ∙ (λ i. (pos (2 ^ 20 * c.cost_along-cost.result) -ℤ u_is i *ℤ pos 1) -ℤ w_is i *ℤ pos load)) in
+    best_of_type s a u w c.args.grade c.args.least load capacity c.cost_along-cost.result _ c.types.ensures.valid c.requires.least c.requires.bears.listed (sym capacity_is) c.cost_along-cost.ensures.cost left best

@@ -24,4 +24,4 @@ returns-in-None c =
     let u = c.args.on_use in
     let w = c.args.on_load in
     let past : length s.types ≤ c.loop-grade.grade = omega (arith, c.loop-grade-test.false, ap (length {A = CableType}) c.types.ensures.value, c.types.ensures.valid.types_count) in
-    absurd (types_none s a u w c.loop-grade.grade c.points.ensures.valid c.requires.arc past (subst (IsLeastOfTypesBelow s a u w c.loop-grade.grade) c.in-None.is (below_read s a u w c.loop-grade.grade c.loop-grade.least c.ranges.on_use c.ranges.on_load c.loop-grade.invariant)))
+    absurd (types_none s a u w c.loop-grade.grade c.points.ensures.valid c.requires.arc.candidate past (subst (IsLeastOfTypesBelow s a u w c.loop-grade.grade) c.in-None.is (below_read s a u w c.loop-grade.grade c.loop-grade.least c.ranges.on_use c.ranges.on_load c.loop-grade.invariant)))

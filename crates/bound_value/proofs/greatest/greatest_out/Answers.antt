@@ -1,24 +1,14 @@
 use Rattle.std.proofs.Common.{◌∙◌, ◌+◌, ℕ, fold, drop, arith, sym, ap}
-use Rattle.std.proofs.lemmas.Option.{slice_get_within}
-use Rattle.layout_laws.proofs.Typing.{all-at}
-use Rattle.cable_definitions.specs.declared.cable.Arc.{Arc}
-use Rattle.cable_definitions.specs.Arcs.{IsCandidate}
 use Rattle.site_model.specs.Best.{most_cost}
 use Rattle.bound_value.proofs.GreatestCosts.{with_arc, arcs_begin, arcs_more, arcs_all, ord_max-nat, max_small}
+use Rattle.bound_value.proofs.LeastUses.{is_arc}
 use Rattle.bound_value.proofs.greatest.greatest_out.Goals as goal
 
 pub loop-number-init : goal.loop-number-init
 loop-number-init c = record { rest = arcs_begin c.args.site.now c.args.arcs.now c.args.p c.out_of-first.result.0 c.out_of-first.ensures.first; small = omega arith }
 
-pub greatest_of_types-requires-clause-from : goal.greatest_of_types-requires-clause-from
-greatest_of_types-requires-clause-from c =
-    let candidate = all-at (λ (a : Arc). IsCandidate c.args.site.now a.from a.to) c.args.arcs.now c.loop-number.number c.get.result c.requires.candidates c.get.ensures in
-    slice_get_within c.args.site.now.points c.get.result.from candidate.from candidate.from_is
-
-pub greatest_of_types-requires-clause-to : goal.greatest_of_types-requires-clause-to
-greatest_of_types-requires-clause-to c =
-    let candidate = all-at (λ (a : Arc). IsCandidate c.args.site.now a.from a.to) c.args.arcs.now c.loop-number.number c.get.result c.requires.candidates c.get.ensures in
-    slice_get_within c.args.site.now.points c.get.result.to candidate.to candidate.to_is
+pub greatest_of_types-requires : goal.greatest_of_types-requires
+greatest_of_types-requires c = is_arc c.args.site.now c.args.arcs.now c.loop-number.number c.get.result c.requires c.get.ensures
 
 pub loop-number-preserved : goal.loop-number-preserved
 loop-number-preserved c =

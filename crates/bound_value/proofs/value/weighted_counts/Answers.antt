@@ -1,4 +1,4 @@
-use Rattle.std.proofs.Common.{◌≡◌, pos, slice_get, Some, get_or}
+use Rattle.std.proofs.Common.{◌≡◌, pos, slice_get, Some, get_or, refl}
 use Rattle.cable_definitions.specs.declared.cable.Arc.{Arc}
 use Rattle.cable_definitions.specs.Row.{Row, on_use, on_load}
 use Rattle.proof_laws.proofs.Lists.{some_at}
@@ -10,8 +10,8 @@ overflow_add-sum c =
     let rows = c.args.pool.now in
     let weights = c.args.weights.now in
     let i = c.loop-weight.weight-index in
-    let w = get_or c.as_slice-weight-items.result.now i (0, pos 0) in
-    let n = next_weight rows weights c.as_slice-weight-items.result.now i c.requires.lawful c.as_slice-weight-items.ensures.value c.loop-weight-test.true c.as_slice-weight-items.ensures.at_most in
+    let w = get_or weights i (0, pos 0) in
+    let n = next_weight rows weights weights i c.requires.lawful refl c.loop-weight-test.true c.requires.few in
     let arc = some_at c.args.arcs.now c.args.arc c.requires.arc in
     let a = arc.0 in
     (coefficient_added (λ (row : Row). on_use row.kind row.members c.args.arc a.from a.to) rows weights i w c.loop-weight.sum.on_use c.coefficients-on_use.result.0 c.from.result c.weighted.result n
@@ -23,8 +23,8 @@ overflow_add-sum-in-loop-weight c =
     let rows = c.args.pool.now in
     let weights = c.args.weights.now in
     let i = c.loop-weight.weight-index in
-    let w = get_or c.as_slice-weight-items.result.now i (0, pos 0) in
-    let n = next_weight rows weights c.as_slice-weight-items.result.now i c.requires.lawful c.as_slice-weight-items.ensures.value c.loop-weight-test.true c.as_slice-weight-items.ensures.at_most in
+    let w = get_or weights i (0, pos 0) in
+    let n = next_weight rows weights weights i c.requires.lawful refl c.loop-weight-test.true c.requires.few in
     let arc = some_at c.args.arcs.now c.args.arc c.requires.arc in
     let a = arc.0 in
     (coefficient_added (λ (row : Row). on_load row.kind row.members a.from a.to) rows weights i w c.loop-weight.sum.on_load c.coefficients-on_use.result.1 c.from-in-loop-weight.result c.weighted-in-loop-weight.result n
@@ -36,8 +36,8 @@ loop-weight-preserved c =
     let rows = c.args.pool.now in
     let weights = c.args.weights.now in
     let i = c.loop-weight.weight-index in
-    let w = get_or c.as_slice-weight-items.result.now i (0, pos 0) in
-    let n = next_weight rows weights c.as_slice-weight-items.result.now i c.requires.lawful c.as_slice-weight-items.ensures.value c.loop-weight-test.true c.as_slice-weight-items.ensures.at_most in
+    let w = get_or weights i (0, pos 0) in
+    let n = next_weight rows weights weights i c.requires.lawful refl c.loop-weight-test.true c.requires.few in
     let use_added = λ (a : Arc) (e : slice_get c.args.arcs.now c.args.arc ≡ Some a).
     coefficient_added (λ (row : Row). on_use row.kind row.members c.args.arc a.from a.to) rows weights i w c.loop-weight.sum.on_use c.coefficients-on_use.result.0 c.from.result c.weighted.result n
     (c.loop-weight.invariant.on_use a e) c.loop-weight.invariant.on_use_small c.from.ensures (c.coefficients-on_use.ensures.on_use n.row a n.listed e)

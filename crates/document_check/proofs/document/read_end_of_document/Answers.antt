@@ -35,7 +35,7 @@ returns-in-Ok-read_close-clause-accepted g c first start are budget h =
     let after = ahead c.read_close.new.lines.pending (g.S.Source.left c.read_close.new.src) in
     let cables = c.read_layout.new.into in
     accepted_end s b.arcs b.budget c.args.count b.kept cables c.in_ok-claim.claim later after c.judge_claim.new.lines.lines c.read_close.new.lines.lines first start are budget c.in-Ok.ensures.size (c.in-Ok.ensures.in_order refl)
-    c.in_ok-claim.ensures.agrees c.in_ok-claim.ensures.range c.in_ok-claim.ensures.built
+    c.in_ok-claim.ensures.agrees c.in_ok-claim.ensures.range
     (c.in_ok-claim.ensures.reads (cables_text s b.budget c.args.count cables) first start
     (cables_on s b.arcs b.budget c.args.count b.kept cables before middle c.args.lines.now.lines c.read_layout.new.lines.lines c.in-Ok.ensures.reads c.in-Ok.ensures.text c.in-Ok.ensures.size c.in-Ok.ensures.lines c.in-Ok.ensures.no_lines first start h))
     c.in-Ok-read_close.ensures.text c.in-Ok-read_close.ensures.reads c.in-Ok-read_close.ensures.lines c.in-Ok-read_close.ensures.end

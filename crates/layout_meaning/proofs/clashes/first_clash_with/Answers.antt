@@ -6,8 +6,11 @@ use Rattle.layout_meaning.proofs.Starting.{none_since, numbers_out, out_past, cl
 use Rattle.layout_meaning.proofs.clashes.first_clash_with.Goals as goal
 use Rattle.layout_meaning.proofs.clashes.first_clash_with.Goals.{in-Some+else-pairs_clash, in_default}
 
-pub pairs_clash-requires-clause-second : goal.pairs_clash-requires-clause-second
-pairs_clash-requires-clause-second c = numbers_out c.args.site.now c.args.cables.now c.loop-b.b c.in-Some.second c.requires.range (sym c.cable_out.ensures ∙ c.in-Some.is)
+pub pairs_clash-requires-clause-third : goal.pairs_clash-requires-clause-third
+pairs_clash-requires-clause-third c = (numbers_out c.args.site.now c.args.cables.now c.loop-b.b c.in-Some.second c.requires.range (sym c.cable_out.ensures ∙ c.in-Some.is)).from
+
+pub pairs_clash-requires-clause-fourth : goal.pairs_clash-requires-clause-fourth
+pairs_clash-requires-clause-fourth c = (numbers_out c.args.site.now c.args.cables.now c.loop-b.b c.in-Some.second c.requires.range (sym c.cable_out.ensures ∙ c.in-Some.is)).to
 
 pub returns-then-pairs_clash-clause-first : goal.returns-then-pairs_clash-clause-first
 returns-then-pairs_clash-clause-first c = record {

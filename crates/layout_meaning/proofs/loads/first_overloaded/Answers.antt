@@ -10,11 +10,11 @@ returns-then-loads-p-clause-first c =
     let e = sym c.cable_out.ensures ∙ c.in-Some.is in
     let l = c.requires.loads.at c.loop-p.p (grind arith) in
     first_start c.args.site.now c.args.cables.now c.loop-p.p c.in-Some.cable e
-    (record { broken = capacity_broken c.args.site.now c.args.cables.now c.loop-p.p c.in-Some.cable e (λ kept. absurd (omega (arith, kept, l, c.capacity.ensures))); earlier = c.loop-p.invariant })
+    (record { broken = capacity_broken c.args.site.now c.args.cables.now c.loop-p.p c.in-Some.cable e (λ kept. absurd (omega (arith, kept, l, c.capacity.ensures.capacity))); earlier = c.loop-p.invariant })
 
 pub loop-p-preserved : goal.loop-p-preserved
 loop-p-preserved c = below_more _ _ c.loop-p.invariant (elim c.match-cable_out.branch [
-  | in-Some+else-loads-p w ↦ capacity_here c.args.site.now c.args.cables.now c.loop-p.p w.in-Some.cable c.requires.start (sym c.cable_out.ensures ∙ w.in-Some.is) (let l = c.requires.loads.at c.loop-p.p (grind arith) in omega (arith, l, w.capacity.ensures))
+  | in-Some+else-loads-p w ↦ capacity_here c.args.site.now c.args.cables.now c.loop-p.p w.in-Some.cable c.requires.start (sym c.cable_out.ensures ∙ w.in-Some.is) (let l = c.requires.loads.at c.loop-p.p (grind arith) in omega (arith, l, w.capacity.ensures.capacity))
   | in_default w ↦ capacity_none c.args.site.now c.args.cables.now c.loop-p.p (sym c.cable_out.ensures ∙ none_since c.cable_out.result w.in_default.not-Some)
 ])
 

@@ -1,11 +1,12 @@
-use Rattle.std.proofs.Common.{◌≡◌, ◌<◌, ◌≤◌, ℕ, length}
+use Rattle.std.proofs.Common.{◌≡◌, ◌<◌, ◌≤◌, ◌*◌, ℕ, length, take}
 use Rattle.std.specs.Prelude.{slice_index}
 use Rattle.cable_definitions.specs.Walk.{load}
 use Rattle.layout_meaning.proofs.walks.all_loads.Given as goal
 
-abbrev pub invariant-loop-p : goal.invariant-loop-p
-invariant-loop-p l = record {
+abbrev pub invariant-loop-point : goal.invariant-loop-point
+invariant-loop-point l = record {
+  t_is : l.t ≡ l.point-index;
   room : length l.loads ≡ 256;
-  at : (p : ℕ) → p < l.p → slice_index l.loads p ≡ load l.site l.cables p;
-  small : (p : ℕ) → p < l.p → slice_index l.loads p ≤ 256000;
+  at : (p : ℕ) → p < 256 → slice_index l.loads p ≡ load (record l.site { points = take l.point-index l.points }) l.cables p;
+  bound : (p : ℕ) → p < 256 → slice_index l.loads p ≤ 1000 * l.point-index;
 }

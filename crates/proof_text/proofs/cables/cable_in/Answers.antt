@@ -1,4 +1,4 @@
-use Rattle.proof_text.proofs.Shapes.{not_so}
+use Rattle.line_words.proofs.Shapes.{not_so}
 use Rattle.proof_text.proofs.Names.{ahead_too}
 use Rattle.proof_text.proofs.cables.cable_in.Goals as goal
 

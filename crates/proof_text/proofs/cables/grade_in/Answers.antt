@@ -1,7 +1,7 @@
 use Rattle.std.proofs.Common.{inl, inr, subst, arith}
 use Rattle.std.proofs.lemmas.Int.{ints}
-use Rattle.proof_text.specs.declared.number.Number.TheVariants.{Other}
-use Rattle.proof_text.specs.Numbers.{Is}
+use Rattle.line_words.specs.declared.number.Number.TheVariants.{Other}
+use Rattle.line_words.specs.Numbers.{Is}
 use Rattle.proof_text.proofs.cables.grade_in.Goals as goal
 
 pub returns-in-Other-clause-none : goal.returns-in-Other-clause-none

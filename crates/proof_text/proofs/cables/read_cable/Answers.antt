@@ -2,7 +2,7 @@ use Rattle.std.proofs.Common.{[], ◌∷◌, ◌++◌, suc, subst}
 use Rattle.cable_definitions.specs.Text.{cable_line, Whole}
 use Rattle.cable_definitions.specs.Refusal.{CableLine}
 use Rattle.cable_text.specs.Lines.{ahead}
-use Rattle.proof_text.specs.Words.{held, IsCut}
+use Rattle.line_words.specs.Words.{held, IsCut}
 use Rattle.proof_text.specs.Cables.{cables_left}
 use Rattle.proof_text.proofs.Streams.{goes_one, refused_next, line_given}
 use Rattle.proof_text.proofs.Names.{cable_good, cable_of, cable_goes, cable_spelled, cable_bad}

@@ -1,6 +1,6 @@
 use Rattle.cable_definitions.specs.Refusal.{AtWeights}
 use Rattle.cable_text.specs.Lines.{ahead}
-use Rattle.proof_text.specs.Words.{held}
+use Rattle.line_words.specs.Words.{held}
 use Rattle.proof_text.proofs.Streams.{refused_here}
 use Rattle.proof_text.proofs.ItemLines.{act_read}
 use Rattle.proof_text.proofs.items.read_act.Goals as goal

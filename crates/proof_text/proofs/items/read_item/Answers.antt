@@ -1,6 +1,6 @@
 use Rattle.cable_definitions.specs.Refusal.{AtItem}
 use Rattle.cable_text.specs.Lines.{ahead}
-use Rattle.proof_text.specs.Words.{held}
+use Rattle.line_words.specs.Words.{held}
 use Rattle.proof_text.proofs.Streams.{refused_here}
 use Rattle.proof_text.proofs.ItemLines.{item_read}
 use Rattle.proof_text.proofs.items.read_item.Goals as goal
@@ -8,7 +8,7 @@ use Rattle.proof_text.proofs.items.read_item.Goals as goal
 pub returns-in-Ok-clause-reads : goal.returns-in-Ok-clause-reads
 returns-in-Ok-clause-reads g c =
     item_read (ahead c.args.lines.now.pending (g.S.Source.left c.args.src.now)) (ahead c.next_line.new.lines.pending (g.S.Source.left c.next_line.new.src)) c.next_line.new.lines.text c.text.result.now (held c.words_of.result)
-    c.in_default.ensures.found c.text.ensures c.words_of.ensures c.in-Ok.item c.in-Ok.ensures.good
+    c.in_default.ensures.found c.text.ensures c.words_of.ensures c.in-Ok.item c.item_in.new.members c.in-Ok.ensures.good
 
 pub returns-in-Err-item_in-clause-refused : goal.returns-in-Err-item_in-clause-refused
 returns-in-Err-item_in-clause-refused g c = rw c.refused.ensures (λ s r e.

@@ -1,7 +1,7 @@
 use Rattle.std.proofs.Common.{suc}
 use Rattle.cable_definitions.specs.Refusal.{AtWeights}
 use Rattle.cable_text.specs.Lines.{ahead}
-use Rattle.proof_text.specs.Words.{held}
+use Rattle.line_words.specs.Words.{held}
 use Rattle.proof_text.proofs.Streams.{refused_here}
 use Rattle.proof_text.proofs.WeightLines.{weight_read}
 use Rattle.proof_text.proofs.items.read_weight.Goals as goal

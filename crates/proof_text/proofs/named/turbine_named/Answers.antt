@@ -1,4 +1,4 @@
-use Rattle.proof_text.proofs.Shapes.{not_so}
+use Rattle.line_words.proofs.Shapes.{not_so}
 use Rattle.proof_text.proofs.Names.{no_point, no_turbine_named}
 use Rattle.proof_text.proofs.named.turbine_named.Goals as goal
 

@@ -3,9 +3,9 @@ use Rattle.cable_definitions.specs.Text.{claim_line, Whole}
 use Rattle.cable_definitions.specs.Refusal.{ClaimLine, AtCables}
 use Rattle.cable_definitions.specs.declared.claim.Cause.TheVariants.{Layout}
 use Rattle.cable_text.specs.Lines.{ahead}
-use Rattle.proof_text.specs.Words.{held, IsCut}
-use Rattle.proof_text.specs.Judged.{verdict_of}
-use Rattle.proof_text.proofs.Claims.{claim_spelled, claim_in_range, claim_built, no_turbine}
+use Rattle.line_words.specs.Words.{held, IsCut}
+use Rattle.line_words.specs.Judged.{verdict_of}
+use Rattle.proof_text.proofs.Claims.{claim_spelled, claim_in_range, no_turbine}
 use Rattle.proof_text.proofs.Streams.{line_of_good, refused_here, refused_next, line_given}
 use Rattle.proof_text.proofs.reading.read_claim.Goals as goal
 
@@ -26,9 +26,6 @@ returns-in-Some-clause-text g c =
 
 pub returns-in-Some-clause-range : goal.returns-in-Some-clause-range
 returns-in-Some-clause-range g c = claim_in_range c.args.site.now (verdict_of c.in-Ok.claim) c.in-Some.claim c.in-Some.ensures.some c.in-Ok.ensures.good.limits.0
-
-pub returns-in-Some-clause-built : goal.returns-in-Some-clause-built
-returns-in-Some-clause-built g c = claim_built c.in-Some.claim
 
 pub returns-in-Err-claim_in-clause-refused : goal.returns-in-Err-claim_in-clause-refused
 returns-in-Err-claim_in-clause-refused g c = rw c.refused.ensures (λ r e.

@@ -4,7 +4,7 @@ use Rattle.cable_definitions.specs.Text.{line}
 use Rattle.cable_definitions.specs.Refusal.{LayoutLine, AtJudged, AtAnyCables, after_layout}
 use Rattle.cable_text.proofs.Numerals.{numeral-decimal}
 use Rattle.cable_text.specs.Lines.{ahead}
-use Rattle.proof_text.specs.Words.{held}
+use Rattle.line_words.specs.Words.{held}
 use Rattle.proof_text.proofs.Streams.{goes_one, refused_here, line_given}
 use Rattle.proof_text.proofs.reading.read_count.Goals as goal
 

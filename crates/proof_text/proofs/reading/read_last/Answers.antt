@@ -2,7 +2,7 @@ use Rattle.std.proofs.Common.{[], ◌∷◌, codes, refl}
 use Rattle.cable_definitions.specs.Text.{line}
 use Rattle.cable_definitions.specs.Refusal.{EndLine, AtLast, Past}
 use Rattle.cable_text.specs.Lines.{ahead}
-use Rattle.proof_text.specs.Words.{held}
+use Rattle.line_words.specs.Words.{held}
 use Rattle.proof_text.proofs.Streams.{goes_one, refused_here, line_given}
 use Rattle.proof_text.proofs.reading.read_last.Goals as goal
 

@@ -1,8 +1,7 @@
-use Rattle.std.proofs.Common.{◌≤◌, ◌↔◌, List, IsTrue, ◌∙◌, sym, ap, subst, arith, fold, max}
+use Rattle.std.proofs.Common.{◌≤◌, ◌↔◌, List, IsTrue, ◌∙◌, sym, subst, arith}
 use Rattle.std.specs.Prelude.{All}
 use Rattle.std.proofs.lemmas.Bool.{false≢true}
 use Rattle.cable_definitions.specs.declared.place.Place.{Place}
-use Rattle.cable_definitions.specs.declared.site.CableType.{CableType}
 use Rattle.cable_definitions.specs.declared.site.Point.{Point}
 use Rattle.cable_definitions.specs.Plane.{edges}
 use Rattle.cable_definitions.specs.Arcs.{power_of_kind, largest_capacity}
@@ -20,7 +19,7 @@ returns c =
     let to = c.index-points-to.result in
     let from_is = point_is s c.points.result.now p from c.points.ensures.value c.requires.from c.index-points-from.is in
     let to_is = point_is s c.points-2.result.now q to c.points-2.ensures.value c.requires.to c.index-points-to.is in
-    let largest = c.largest_capacity.ensures ∙ ap (λ (types : List CableType). fold (λ most t. max most t.capacity) 0 types) c.types.ensures.value in
+    let largest = c.largest_capacity.ensures.largest in
     let bearable : power_of_kind from.kind ≤ largest_capacity s = omega (arith, largest, c.power_of.ensures, c.if-power_of-largest_capacity.false) in
     let passes = subst (λ (points : List Point). PassesNone points p q from.at to.at) c.points-3.ensures.value (c.passes_none.ensures.0 c.if-not-passes_none.false) in
     let clear = subst (λ (obstacles : List (List Place)). IsTrue c.is_clear.result ↔ All (λ corners. IsClear from.at to.at (edges corners)) obstacles) c.obstacles.ensures.value c.is_clear.ensures in

@@ -1,6 +1,6 @@
 use Rattle.std.specs.Option.{option_copied}
 use Rattle.site_text.specs.declared.keyword.Keyword.TheVariants.{Bend}
-use Rattle.site_text.specs.Words.{rest_parts}
+use Rattle.cable_text.specs.Words.{rest_parts}
 use Rattle.site_text.proofs.Saying.{stray, said_bend}
 use Rattle.site_text.proofs.item.bend_item.Goals as goal
 

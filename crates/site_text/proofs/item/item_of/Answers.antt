@@ -1,6 +1,6 @@
 use Rattle.std.proofs.Common.{sym, ◌∙◌, ap, ◌∷◌, subst, List, ℕ}
 use Rattle.std.specs.Option.{option_copied}
-use Rattle.site_text.specs.Words.{rest_parts}
+use Rattle.cable_text.specs.Words.{rest_parts}
 use Rattle.site_text.specs.Item.{IsSaid}
 use Rattle.site_text.specs.declared.item.Item.TheVariants.{Stray}
 use Rattle.site_text.proofs.Lines.{item_of_line}

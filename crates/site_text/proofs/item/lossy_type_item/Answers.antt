@@ -1,7 +1,7 @@
 use Rattle.std.specs.Option.{option_copied}
 use Rattle.cable_definitions.specs.declared.site.Version.TheVariants.{Two}
 use Rattle.site_text.specs.declared.keyword.Keyword.TheVariants.{CableType}
-use Rattle.site_text.specs.Words.{rest_parts}
+use Rattle.cable_text.specs.Words.{rest_parts}
 use Rattle.site_text.proofs.Saying.{stray, said_lossy_type}
 use Rattle.site_text.proofs.item.lossy_type_item.Goals as goal
 

@@ -1,7 +1,7 @@
 use Rattle.std.specs.Option.{option_copied}
 use Rattle.cable_definitions.specs.declared.site.Version.TheVariants.{One}
 use Rattle.site_text.specs.declared.keyword.Keyword.TheVariants.{CableType}
-use Rattle.site_text.specs.Words.{rest_parts}
+use Rattle.cable_text.specs.Words.{rest_parts}
 use Rattle.site_text.proofs.Saying.{stray, said_plain_type}
 use Rattle.site_text.proofs.item.plain_type_item.Goals as goal
 

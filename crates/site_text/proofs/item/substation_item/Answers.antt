@@ -1,6 +1,6 @@
 use Rattle.std.specs.Option.{option_copied}
 use Rattle.site_text.specs.declared.keyword.Keyword.TheVariants.{Substation}
-use Rattle.site_text.specs.Words.{rest_parts}
+use Rattle.cable_text.specs.Words.{rest_parts}
 use Rattle.site_text.proofs.Saying.{stray, said_substation}
 use Rattle.site_text.proofs.item.substation_item.Goals as goal
 

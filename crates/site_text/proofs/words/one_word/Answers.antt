@@ -1,5 +1,5 @@
 use Rattle.std.proofs.Common.{◌∙◌, sym}
-use Rattle.site_text.proofs.Splitting.{rest_some, rest_none}
+use Rattle.site_text.proofs.Fields.{rest_some, rest_none}
 use Rattle.site_text.proofs.words.one_word.Goals as goal
 
 pub returns-in_default-clause-none : goal.returns-in_default-clause-none

@@ -4,7 +4,13 @@ use Rattle.cable_definitions.specs.declared.cable.Cable.{Cable}
 use Rattle.cable_definitions.specs.Layout.{IsLegal, cost}
 use Rattle.start_layout.specs.Moves.{MakesNoneBelow}
 use Rattle.start_layout.proofs.Moving.{not_legal, none_where_illegal, none_where_dear, made_legal}
+use Rattle.start_layout.proofs.Cutting.{none_where_floor}
 use Rattle.start_layout.proofs.settling.cost_below.Goals as goal
+
+pub returns-then-least-bound-clause-none : goal.returns-then-least-bound-clause-none
+returns-then-least-bound-clause-none c =
+    none_where_floor c.args.site.now c.args.cables.now c.args.floor c.args.arc c.least_cost-price.result c.args.bound c.requires.start c.requires.floor c.least_cost-price.ensures
+    (omega (arith, c.saturating_add-least.ensures))
 
 pub returns-in_err-cost-clause-none : goal.returns-in_err-cost-clause-none
 returns-in_err-cost-clause-none c =

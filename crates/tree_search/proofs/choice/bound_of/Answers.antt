@@ -2,11 +2,8 @@ use Rattle.std.proofs.Common.{◌∙◌, ap, length, sym}
 use Rattle.tree_search.proofs.Choosing.{length-marks, small-passed}
 use Rattle.tree_search.proofs.choice.bound_of.Goals as goal
 
-pub weigh_turbines-requires-clause-marks : goal.weigh_turbines-requires-clause-marks
-weigh_turbines-requires-clause-marks c = ap length (c.decisions.ensures c.args.arcs.now (sym c.requires.arcs_count)) ∙ length-marks c.args.arcs.now c.args.tree.now.nodes c.args.node
-
-pub weigh-value-requires-clause-marks : goal.weigh-value-requires-clause-marks
-weigh-value-requires-clause-marks c = ap length (c.decisions.ensures c.args.arcs.now (sym c.requires.arcs_count)) ∙ length-marks c.args.arcs.now c.args.tree.now.nodes c.args.node
+pub weigh_node-value-requires-clause-marks : goal.weigh_node-value-requires-clause-marks
+weigh_node-value-requires-clause-marks c = ap length (c.decisions.ensures c.args.arcs.now (sym c.requires.arcs_count)) ∙ length-marks c.args.arcs.now c.args.tree.now.nodes c.args.node
 
 pub returns-clause-marks_count : goal.returns-clause-marks_count
 returns-clause-marks_count c = ap length (c.decisions.ensures c.args.arcs.now (sym c.requires.arcs_count)) ∙ length-marks c.args.arcs.now c.args.tree.now.nodes c.args.node

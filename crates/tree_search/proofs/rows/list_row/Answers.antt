@@ -6,7 +6,7 @@ use Rattle.tree_search.proofs.rows.list_row.Goals as goal
 
 pub returns-clause-advances : goal.returns-clause-advances
 returns-clause-advances g c = λ n.
-    advances-row c.args.site.now c.args.arcs.now n c.args.kind c.args.point 1024 c.args.pool.now c.add.new.self c.requires.built c.in-Ok.ensures.well_formed c.in-Ok-add.ensures.listed
+    advances-row c.args.site.now c.args.arcs.now n c.args.kind c.args.point 1280 c.args.pool.now c.add.new.self c.in-Ok.ensures.well_formed c.in-Ok-add.ensures.listed
     c.requires.few (omega arith) c.write_row.ensures
 
 pub returns-clause-still : goal.returns-clause-still

@@ -1,6 +1,6 @@
 use Rattle.std.proofs.Common.{◌++◌, ◌∷◌, [], List, refl, arith, ap, ◌∙◌}
 use Rattle.cable_definitions.specs.Row.{Row}
-use Rattle.cable_rows.proofs.Wellformed.{points_below, few_members, members_ascend}
+use Rattle.cable_rows.proofs.Wellformed.{points_below, few_members, members_ascend, one_member}
 use Rattle.cable_rows.proofs.Pools.{pool_after, rows_after, row_with}
 use Rattle.cable_rows.proofs.pool.RowPool.add.Goals as goal
 
@@ -19,6 +19,7 @@ invariant_of-self-2 c =
       size = c.table_of.ensures.size;
       table = c.table_of.ensures.table;
       ascending = members_ascend c.args.site.now c.args.arcs.now c.args.kind members c.requires.well_formed;
+      one = one_member c.args.site.now c.args.arcs.now c.args.kind members c.requires.well_formed;
     }) (omega arith) (omega arith) (omega arith) (omega arith)
 
 pub returns-clause-listed : goal.returns-clause-listed
@@ -33,5 +34,6 @@ returns-clause-listed c =
       size = c.table_of.ensures.size;
       table = c.table_of.ensures.table;
       ascending = members_ascend c.args.site.now c.args.arcs.now c.args.kind members c.requires.well_formed;
+      one = one_member c.args.site.now c.args.arcs.now c.args.kind members c.requires.well_formed;
     })
     ∙ ap (λ (rows : List Row). rows ++ row_with c.args.kind members ∷ []) c.self.view_is

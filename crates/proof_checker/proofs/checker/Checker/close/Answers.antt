@@ -2,7 +2,7 @@ use Rattle.std.proofs.Common.{List, Option, ap, subst}
 use Rattle.cable_definitions.specs.declared.claim.Cause.{Cause}
 use Rattle.cable_definitions.specs.Tree.{Item, IsAccepted, Agrees, Says}
 use Rattle.cable_definitions.specs.Refusal.{IsClaimRefused}
-use Rattle.branch_tree.specs.declared.work.Refusal.{Refusal}
+use Rattle.cable_definitions.specs.declared.claim.Refusal.{Refusal}
 use Rattle.proof_laws.proofs.Sound.{sound-accepted, says-sound}
 use Rattle.document_laws.proofs.Accepted.{claim-stands}
 use Rattle.proof_checker.specs.State.{CheckerState, kept_from, Refuses}

@@ -3,7 +3,7 @@ use Rattle.cable_definitions.specs.declared.claim.Cause.{Cause}
 use Rattle.cable_definitions.specs.Row.{Row}
 use Rattle.cable_definitions.specs.Tree.{IsListed}
 use Rattle.cable_definitions.specs.Refusal.{IsRowRefused}
-use Rattle.branch_tree.specs.declared.work.Refusal.{Refusal}
+use Rattle.cable_definitions.specs.declared.claim.Refusal.{Refusal}
 use Rattle.document_laws.proofs.Accepted.{row-stands}
 use Rattle.proof_checker.specs.State.{CheckerState, kept_from, Refuses}
 use Rattle.proof_checker.proofs.Keeping.{refuses}

@@ -1,7 +1,0 @@
-use Rattle.std.proofs.Common.{ℕ, ◌<◌}
-use Rattle.cable_definitions.specs.Walk.{load}
-use Rattle.branch_tree.specs.Reasons.{IsOverloaded}
-use Rattle.branch_tree.proofs.flows.find_overloaded.Given as goal
-
-abbrev pub invariant-loop-p : goal.invariant-loop-p
-invariant-loop-p l = (p : ℕ) → p < l.p → ¬ (IsOverloaded l.site p (load l.site l.cables p))

@@ -1,7 +1,0 @@
-use Rattle.std.proofs.Common.{ℕ, ◌<◌}
-use Rattle.cable_definitions.specs.Walk.{load}
-use Rattle.branch_tree.specs.Reasons.{IsOverpowered}
-use Rattle.branch_tree.proofs.flows.find_overpowered.Given as goal
-
-abbrev pub invariant-loop-p : goal.invariant-loop-p
-invariant-loop-p l = (p : ℕ) → p < l.p → ¬ (IsOverpowered l.site p (load l.site l.cables p))

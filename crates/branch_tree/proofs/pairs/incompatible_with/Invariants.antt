@@ -1,6 +1,0 @@
-use Rattle.std.proofs.Common.{◌≡◌, ℕ, ◌<◌, Some, slice_get}
-use Rattle.branch_tree.specs.Reasons.{AreIncompatibleAt}
-use Rattle.branch_tree.proofs.pairs.incompatible_with.Given as goal
-
-abbrev pub invariant-loop-place : goal.invariant-loop-place
-invariant-loop-place l = (j k : ℕ) → j < l.place → slice_get l.numbers j ≡ Some k → ¬ (AreIncompatibleAt l.site l.arcs k l.a)

@@ -1,0 +1,79 @@
+//! The weights and the shares that a node's dual weights give.
+
+ghost use Rattle.std.specs.Prelude.{◌≤◌, ◌^◌, ◌≡◌, length};
+
+use crate::rows::MOST_WEIGHT;
+use crate::steps::Dual;
+use bound_shares::Shares;
+use bound_value::Weights;
+use cable_definitions::row::RowKind;
+use cable_rows::RowPool;
+
+/// The greatest share.
+const WHOLE: i64 = 1_048_576;
+
+impl Dual {
+    /// Makes the kept weights the tried ones, and each row on the cables out of a turbine the least slack of its links; the first such row of a turbine
+    /// alone has a weight.
+    fn settle(&mut self, pool: &RowPool) {
+        self.try_kept();
+        self.value(pool);
+        let mut is_weighed = [false; 256];
+        for row in &mut self.rows {
+            let p = row.place as usize;
+            if row.kind == RowKind::Out && !is_weighed[p] {
+                is_weighed[p] = true;
+                if let Some(spot) = self.node.spots.get(p) {
+                    if !spot.is_fixed && spot.low < i128::MAX {
+                        row.trial = spot.low.clamp(-MOST_WEIGHT, MOST_WEIGHT);
+                    }
+                }
+            }
+        }
+    }
+
+    /// The weights in order of row.
+    pub(crate) fn list(&mut self, pool: &RowPool, weights: &mut Weights) {
+        self.settle(pool);
+        weights.clear();
+        for row in &self.rows {
+            if row.trial != 0 {
+                let _ = weights.push(row.row, row.trial);
+            }
+        }
+    }
+
+    /// The average use of the link in a place, over 2^20.
+    fn use_of(&self, place: usize) -> i64 {
+        match self.uses.get(place) {
+            Some(own) => *own,
+            None => 0,
+        }
+    }
+
+    /// The shares of the arcs: the averages raised by an eighth, at most 2^20.
+    pub(crate) fn share(&self, shares: &mut Shares)
+        ensures { length shares.new ≡ length shares.old }
+    {
+        for (place, link) in self.node.links.iter().enumerate() {
+            set_share(shares, link.arc, self.use_of(place));
+        }
+    }
+}
+
+/// Gives an arc its share.
+fn set_share(shares: &mut Shares, arc: u32, own: i64)
+    ensures { length shares.new ≡ length shares.old }
+{
+    if (arc as usize) < shares.as_slice().len() {
+        shares.set(arc, raised(own));
+    }
+}
+
+/// An average use over 2^20, raised by an eighth.
+fn raised(own: i64) -> u32
+    ensures { result ≤ 2 ^ 20 }
+{
+    let more = own.wrapping_add(own >> 3);
+    more.clamp(0, WHOLE) as u32
+}

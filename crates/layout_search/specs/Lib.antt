@@ -1,0 +1,2 @@
+-- cables whose numbers are of a site
+pub mod Named
