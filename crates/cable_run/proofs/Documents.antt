@@ -168,10 +168,10 @@ document_named input s claim checked = let document = checked.document in claim_
 
 -- the yes to a document that is accepted, whole or in part
 pub yes_written : (input out : Effect) (s : Site) (claim : Claim) → IsChecked input s claim → Wrote out (yes_line claim) → CheckGives input out (Ok Done)
-yes_written input out s claim checked wrote = (tt, (refl, (yes_line claim, ((s, (claim, (checked, refl))), wrote))))
+yes_written input out s claim checked wrote = (tt, (refl, (yes_line claim, (s, claim, checked, refl), wrote)))
 
 pub yes_begun : (input out : Effect) (s : Site) (claim : Claim) → IsChecked input s claim → Faulted out → WroteFirstPart out (yes_line claim) → CheckGives input out (Err Write)
-yes_begun input out s claim checked failed part = (failed, (yes_line claim, ((s, (claim, (checked, refl))), part)))
+yes_begun input out s claim checked failed part = (failed, (yes_line claim, (s, claim, checked, refl), part))
 
 -- the report of a document that is accepted, whole or in part
 is_report : (input : Effect) (s : Site) (cables : List Cable) (claim : Claim) (checked : IsChecked input s claim) → checked.document.cables ≡ cables → IsReport input (report_text s cables claim)
@@ -179,8 +179,8 @@ is_report input s cables claim checked same = (s, claim, checked, ap (λ (xs : L
 
 pub report_written : (input out : Effect) (s : Site) (cables : List Cable) (claim : Claim) (checked : IsChecked input s claim) → checked.document.cables ≡ cables → Wrote out (report_text s cables claim)
     → ReportGives input out (Ok Done)
-report_written input out s cables claim checked same wrote = (tt, (refl, (report_text s cables claim, (is_report input s cables claim checked same, wrote))))
+report_written input out s cables claim checked same wrote = (tt, (refl, (report_text s cables claim, is_report input s cables claim checked same, wrote)))
 
 pub report_begun : (input out : Effect) (s : Site) (cables : List Cable) (claim : Claim) (checked : IsChecked input s claim) → checked.document.cables ≡ cables → Faulted out
     → WroteFirstPart out (report_text s cables claim) → ReportGives input out (Err Write)
-report_begun input out s cables claim checked same failed part = (failed, (report_text s cables claim, (is_report input s cables claim checked same, part)))
+report_begun input out s cables claim checked same failed part = (failed, (report_text s cables claim, is_report input s cables claim checked same, part))

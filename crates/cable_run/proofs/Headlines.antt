@@ -74,12 +74,13 @@ pub yes_of : (bytes : List ℕ) (s : Site) (claim : Claim) (input out note : Eff
     → RanWell input out note ending → (ending ≡ Done) × Wrote out (yes_line claim) × Says s claim
 yes_of bytes s claim input out note ending h b y r =
     let did = done_well (check_promise input) input out note ending h r (λ code place none. none) (λ line cause refused. yes-stands bytes s claim 1 line cause y (refused bytes b)) in
-    let answer = did.2 in
+    let answer = did.1.1 in
     let t : Site = answer.0 in
     let other : Claim = answer.1 in
     let checked : IsChecked input t other = answer.2 in
     let same = yes-same bytes t s other claim (read_as bytes checked.bytes t other (checked.read bytes b) checked.document) y in
-    (did.0, said s t claim other out did.1 same.sites same.claims answer.3 did.3 checked.says)
+    let told = said s t claim other out did.1.0 same.sites same.claims answer.3 did.1.2 checked.says in
+    (did.0, told.0, told.1)
 
 reached_by : (s : Site) (cables : List Cable) (claim : Claim) → LayoutAgrees s cables claim → IsReached s claim
 reached_by s cables (Optimal c) h = (cables, h.0, h.1)
@@ -105,18 +106,18 @@ pub bound_of : (bytes : List ℕ) (input out note : Effect) (ending : Ending) �
 bound_of bytes input out note ending h b e =
     let ended : EndsBy (check_promise input) input out note Done = subst (EndsBy (check_promise input) input out note) e h in
     let did = ended.0 in
-    let answer = did.2 in
-    true_yes bytes input out answer.0 answer.1 did.1 answer.2 answer.3 did.3 b
+    let answer = did.1.1 in
+    true_yes bytes input out answer.0 answer.1 did.1.0 answer.2 answer.3 did.1.2 b
 
 -- ---- site
 pub lines_of : (bytes : List ℕ) (s : Site) (input out note : Effect) (ending : Ending) → EndsBy (site_promise input) input out note ending → Held input bytes → IsFrontSite bytes s
     → RanWell input out note ending → (ending ≡ Done) × Wrote out (site_lines s)
 lines_of bytes s input out note ending h b f r =
     let did = done_well (site_promise input) input out note ending h r (λ code place fault. no_front_fault bytes s code place f (fault bytes b)) (λ line cause none. none) in
-    let answer = did.2 in
+    let answer = did.1.1 in
     let t : Site = answer.0 in
     let same : t ≡ s = one_front bytes t s (answer.1.read bytes b) f in
-    (did.0, subst (λ (u : Site). Wrote out (site_lines u)) same (subst (λ (x : List ℕ). Wrote out x) answer.2 did.3))
+    (did.0, subst (λ (u : Site). Wrote out (site_lines u)) same (subst (λ (x : List ℕ). Wrote out x) answer.2 did.1.2))
 
 -- ---- judge
 judged_as : (s t : Site) (cables others : List Cable) (text : List ℕ) → t ≡ s → others ≡ cables → IsJudgement t others text → IsJudgement s cables text
@@ -128,17 +129,17 @@ pub judgement_of : (bytes : List ℕ) (s : Site) (cables : List Cable) (input ou
 judgement_of bytes s cables input out note ending h b j r =
     let did = done_well (judge_promise input) input out note ending h r
     (λ code place refused. let fault = refused bytes b in no_fault_in_front bytes j.rest s 1 code place fault.0 j.front fault.1)
-    (λ line cause refused. judged-stands bytes s cables 1 line cause j (refused bytes b)) in
-    let answer = did.2 in
+    (λ line cause refused. judged-stands bytes s cables line cause j (refused bytes b)) in
+    let answer = did.1.1 in
     let same = judged-same bytes answer.0 s answer.1 cables (answer.2.read bytes b) j in
-    (did.0, (did.1, judged_as s answer.0 cables answer.1 did.1 same.sites same.lists answer.3, did.3))
+    (did.0, (did.1.0, judged_as s answer.0 cables answer.1 did.1.0 same.sites same.lists answer.3, did.1.2))
 
 -- ---- report
 pub report_of : (bytes : List ℕ) (s : Site) (claim : Claim) (input out note : Effect) (ending : Ending) → EndsBy (report_promise input) input out note ending → Held input bytes → IsAcceptedDocument bytes s claim
     → RanWell input out note ending → (ending ≡ Done) × ((text : List ℕ) × IsReport input text × Wrote out text)
 report_of bytes s claim input out note ending h b y r =
     let did = done_well (report_promise input) input out note ending h r (λ code place none. none) (λ line cause refused. yes-stands bytes s claim 1 line cause y (refused bytes b)) in
-    (did.0, (did.1, did.2, did.3))
+    (did.0, did.1)
 
 -- ---- words
 second_of : (a b c d : List ℕ) → a ∷ b ∷ [] ≡ c ∷ d ∷ [] → b ≡ d

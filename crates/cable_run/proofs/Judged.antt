@@ -155,8 +155,8 @@ faulted_on A LineRead i j k h l r = Rose-after i j k h r
 
 -- the answer on a layout, whole or in part
 pub judgement_written : (input out : Effect) (s : Site) (cables : List Cable) (text : List ℕ) → IsSiteWithLayout input s cables → IsJudgement s cables text → Wrote out text → JudgeGives input out (Ok Done)
-judgement_written input out s cables text read answer wrote = (tt, (refl, (text, ((s, (cables, (read, answer))), wrote))))
+judgement_written input out s cables text read answer wrote = (tt, (refl, (text, (s, cables, read, answer), wrote)))
 
 pub judgement_begun : (input out : Effect) (s : Site) (cables : List Cable) (text : List ℕ) → IsSiteWithLayout input s cables → IsJudgement s cables text → Faulted out → WroteFirstPart out text
     → JudgeGives input out (Err Write)
-judgement_begun input out s cables text read answer failed part = (failed, (text, ((s, (cables, (read, answer))), part)))
+judgement_begun input out s cables text read answer failed part = (failed, (text, (s, cables, read, answer), part))

@@ -1,6 +1,6 @@
 -- The text of a plan from its parts, and what its writers ask for.
 use Rattle.std.proofs.Common.{◌≡◌, ℕ, suc, ◌<◌, ◌≤◌, inl, inr, List, [], ◌∷◌, ◌++◌, length, map, get_or, Option, refl, sym, ap, ◌∙◌, subst, append_assoc, arith}
-use Rattle.std.specs.Prelude.{◌^◌, IsTrue, All, AllPairs, codes}
+use Rattle.std.specs.Prelude.{◌^◌, IsTrue, All, AllPairs, Err, codes}
 use Rattle.std.specs.List.{concat}
 use Rattle.std.specs.Fmt.{decimal}
 use Rattle.std.proofs.lemmas.List.Sums.{sum_by-le}
@@ -28,9 +28,14 @@ use Rattle.proof_laws.proofs.FullLemma.{within-turbine}
 use Rattle.proof_laws.proofs.Sound.{sound-accepted, says-sound}
 use Rattle.proof_lines.specs.Written.{EndsAtPoints, NamesPoint, layout_lines}
 use Rattle.tree_search.specs.Found.{IsOutcome, FindsPlan, WritesPart}
-use Rattle.run_definitions.specs.Effect.{Effect}
+use Rattle.tree_search.specs.declared.finding.SearchFault.{SearchFault}
+use Rattle.tree_search.specs.declared.finding.SearchFault.TheVariants.{Write as SearchWrite, Memory as SearchMemory}
+use Rattle.run_definitions.specs.Effect.{Effect, Faulted}
 use Rattle.run_definitions.specs.Plan.{IsAtLeastFirstCables, IsPlan, IsPlanBegun}
 use Rattle.run_definitions.specs.Ends.{IsRead, PrintsPlan, PrintsPart}
+use Rattle.cable_run.specs.declared.fault.Fault.{Fault}
+use Rattle.cable_run.specs.Faults.{search_fault}
+use Rattle.cable_run.specs.Steps.{PlanGives}
 
 -- ---- parts of the text
 -- what stands before the items
@@ -115,8 +120,8 @@ begun : (input out : Effect) (s : Site) (n : ℕ) (arcs : List Arc) (items : Lis
     → AppendsPrefix out.before out.after (head_text s n ++ concat (map item_lines items)) → PrintsPart n input out
 begun input out s n arcs items kept read are accepted part =
     let started : IsPlanBegun s n (head_text s n ++ concat (map item_lines items)) =
-    record { arcs = arcs; are_arcs = are; items = items; kept = kept; accepted = accepted; text_is = refl } in
-    inr (s, (head_text s n ++ concat (map item_lines items), (read, (inl started, part))))
+      record { arcs = arcs; are_arcs = are; items = items; kept = kept; accepted = accepted; text_is = refl } in
+    inr (s, head_text s n ++ concat (map item_lines items), read, inl started, part)
 
 -- a first part of what stands before the items
 pub head_part : (input out : Effect) (s : Site) (n : ℕ) (arcs : List Arc) → IsRead input s → AreArcs s arcs → AppendsPrefix out.before out.after (head_text s n) → PrintsPart n input out
@@ -180,7 +185,7 @@ tail_part input out middle later s n arcs cables claim least most read are first
     let parts = AppendsPrefix-then out.before later out.after (head_text s n ++ concat (map item_lines found.items)) (tail_text s cables claim)
     (Appends-then out.before middle later (head_text s n) (concat (map item_lines found.items)) first found.written) part in
     let whole = subst (λ (text : List ℕ). AppendsPrefix out.before out.after text) (sym (document_parts s n found.items cables claim)) parts in
-    inr (s, (document_text s n found.items cables claim, (read, (inr (claim, plan_found input middle later s n arcs cables claim least most read are found), whole))))
+    inr (s, document_text s n found.items cables claim, read, inr (claim, plan_found input middle later s n arcs cables claim least most read are found), whole)
 
 -- the whole text
 pub printed_whole : (input out : Effect) (middle later : Option (List ℕ)) (s : Site) (n : ℕ) (arcs : List Arc) (cables : List Cable) (claim : Claim) → 1 ≤ n → n ≤ 50000 → IsRead input s → AreArcs s arcs
@@ -195,3 +200,12 @@ printed_whole input out middle later s n arcs cables claim least most read are f
       plan = plan_found input middle later s n arcs cables claim least most read are found;
       wrote = subst (λ (bytes : List ℕ). Appends out.before out.after bytes) (sym (document_parts s n found.items cables claim)) all;
     }
+
+search_ends : (n : ℕ) (input out : Effect) (fault : SearchFault) → (fault ≡ SearchWrite → Faulted out) → PrintsPart n input out → PlanGives n input out (Err (search_fault fault))
+search_ends n input out SearchWrite failed part = (failed refl, part)
+search_ends n input out SearchMemory failed part = part
+
+-- what the fault of a search gives
+pub search_fails : (n : ℕ) (input out : Effect) (fault : SearchFault) (answer : Fault) → answer ≡ search_fault fault → (fault ≡ SearchWrite → Faulted out) → PrintsPart n input out
+    → PlanGives n input out (Err answer)
+search_fails n input out fault answer is failed part = subst (λ (f : Fault). PlanGives n input out (Err f)) (sym is) (search_ends n input out fault failed part)

@@ -43,7 +43,7 @@ front_fails input out fault answer is same refused read = subst (λ (f : Fault).
 
 -- the lines of a site, whole or in part
 pub lines_written : (input out : Effect) (s : Site) → IsFront input s → Wrote out (site_lines s) → SiteGives input out (Ok Done)
-lines_written input out s front wrote = (tt, (refl, (site_lines s, ((s, (front, refl)), wrote))))
+lines_written input out s front wrote = (tt, (refl, (site_lines s, (s, front, refl), wrote)))
 
 pub lines_begun : (input out : Effect) (s : Site) → IsFront input s → Faulted out → WroteFirstPart out (site_lines s) → SiteGives input out (Err Write)
-lines_begun input out s front failed part = (failed, (site_lines s, ((s, (front, refl)), part)))
+lines_begun input out s front failed part = (failed, (site_lines s, (s, front, refl), part))

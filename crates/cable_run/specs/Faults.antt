@@ -7,8 +7,10 @@ use Rattle.proof_text.specs.declared.fault.ItemFault.{ItemFault}
 use Rattle.proof_text.specs.declared.fault.ItemFault.TheVariants.{Refused as RefusedLine, Read as LineRead}
 use Rattle.document_check.specs.declared.document.DocumentFault.{DocumentFault}
 use Rattle.document_check.specs.declared.document.DocumentFault.TheVariants.{Refused as RefusedDocument, Read as DocumentRead, Memory as DocumentMemory}
+use Rattle.tree_search.specs.declared.finding.SearchFault.{SearchFault}
+use Rattle.tree_search.specs.declared.finding.SearchFault.TheVariants.{Write as SearchWrite, Memory as SearchMemory}
 use Rattle.cable_run.specs.declared.fault.Fault.{Fault}
-use Rattle.cable_run.specs.declared.fault.Fault.TheVariants.{OfSite, OfDocument, Read, Memory}
+use Rattle.cable_run.specs.declared.fault.Fault.TheVariants.{OfSite, OfDocument, Read, Write, Memory}
 
 -- the fault of a site
 abbrev pub site_fault : SiteFault → Fault
@@ -32,3 +34,8 @@ abbrev pub document_fault : DocumentFault → Fault
 document_fault (RefusedDocument refusal) = OfDocument refusal
 document_fault DocumentRead = Read
 document_fault DocumentMemory = Memory
+
+-- the fault of a search
+abbrev pub search_fault : SearchFault → Fault
+search_fault SearchWrite = Write
+search_fault SearchMemory = Memory

@@ -24,14 +24,9 @@ pub(crate) fn check<S: Source, O: Sink>(
 ) -> Result<Ending, Fault>
     ensures { CheckGives (effect S.left S.faults input.old input.new) (effect O.taken O.faults out.old out.new) result }
 {
-    let (_site, accepted) = match read_checked(alloc, input) {
-        Ok(read) => read,
-        Err(fault) => return Err(fault),
-    };
-    match write_yes(accepted.claim, out) {
-        Ok(()) => Ok(Ending::Done),
-        Err(_) => Err(Fault::Write),
-    }
+    let (_site, accepted) = read_checked(alloc, input)?;
+    write_yes(accepted.claim, out)?;
+    Ok(Ending::Done)
 }
 
 /// Appends the yes to a claim.

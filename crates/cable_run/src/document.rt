@@ -3,7 +3,7 @@
 ghost use Rattle.run_definitions.specs.Effect.{effect};
 ghost use Rattle.cable_run.specs.Steps.{ReadsDocument};
 
-use crate::fault::{Fault, in_document, of_document};
+use crate::fault::{Fault, in_document};
 use cable_text::{Lines, Source};
 use candidate_cables::Arcs;
 use document_check::{Accepted, read_document};
@@ -18,19 +18,13 @@ pub(crate) fn read_checked<S: Source>(
 ) -> Result<(Site, Accepted), Fault>
     ensures { ReadsDocument (effect S.left S.faults input.old input.new) result }
 {
-    let Ok(mut lines) = Lines::new(alloc) else {
-        return Err(Fault::Memory);
-    };
+    let mut lines = Lines::new(alloc)?;
     let site = match read_site(alloc, &mut lines, input) {
         Ok(site) => site,
         Err(fault) => return Err(in_document(fault)),
     };
     // The definition of a refusal speaks of the site's arcs.
-    let Ok(_arcs) = Arcs::new(alloc, &site) else {
-        return Err(Fault::Memory);
-    };
-    match read_document(alloc, &site, &mut lines, input) {
-        Ok(accepted) => Ok((site, accepted)),
-        Err(fault) => Err(of_document(fault)),
-    }
+    let _arcs = Arcs::new(alloc, &site)?;
+    let accepted = read_document(alloc, &site, &mut lines, input)?;
+    Ok((site, accepted))
 }

@@ -1,13 +1,16 @@
 //! Why a command didn't do its work.
 
 ghost use Rattle.std.specs.Prelude.{◌≡◌};
-ghost use Rattle.cable_run.specs.Faults.{site_fault, line_fault, document_fault, fault_in_document};
+ghost use Rattle.cable_run.specs.Faults.{fault_in_document};
 
 use cable_definitions::claim::{Cause, Refusal};
+use cable_text::Failed;
 use document_check::DocumentFault;
 use proof_text::ItemFault;
 use site_model::{SiteCode, SiteFault};
+use std::alloc::AllocError;
 use thiserror::Error;
+use tree_search::SearchFault;
 
 /// Why a command didn't do its work.
 #[derive(Clone, Copy, Debug, PartialEq, Eq, Error)]
@@ -29,14 +32,89 @@ pub(crate) enum Fault {
     Memory,
 }
 
-/// What the fault of a site is for a command that reads a site.
-pub(crate) fn of_site(fault: SiteFault) -> Fault
-    ensures { result ≡ site_fault fault }
-{
-    match fault {
-        SiteFault::Refused { code, place, .. } => Fault::OfSite { code, place },
-        SiteFault::Read => Fault::Read,
-        SiteFault::Memory => Fault::Memory,
+/// Memory ran out.
+impl From<AllocError> for Fault {
+    ghost use Rattle.std.specs.Prelude.{◌≡◌};
+    ghost use Rattle.cable_run.specs.declared.fault.Fault.TheVariants.{Memory};
+
+    ghost from_gives = { λ _ fault. fault ≡ Memory };
+
+    fn from(_error: AllocError) -> Fault {
+        Fault::Memory
+    }
+}
+
+/// The output failed: what fails of an input is told by the fault of what was read.
+impl From<Failed> for Fault {
+    ghost use Rattle.std.specs.Prelude.{◌≡◌};
+    ghost use Rattle.cable_run.specs.declared.fault.Fault.TheVariants.{Write};
+
+    ghost from_gives = { λ _ fault. fault ≡ Write };
+
+    fn from(_error: Failed) -> Fault {
+        Fault::Write
+    }
+}
+
+/// The fault of a site, for a command that reads a site.
+impl From<SiteFault> for Fault {
+    ghost use Rattle.std.specs.Prelude.{◌≡◌};
+    ghost use Rattle.cable_run.specs.Faults.{site_fault};
+
+    ghost from_gives = { λ error fault. fault ≡ site_fault error };
+
+    fn from(error: SiteFault) -> Fault {
+        match error {
+            SiteFault::Refused { code, place, .. } => Fault::OfSite { code, place },
+            SiteFault::Read => Fault::Read,
+            SiteFault::Memory => Fault::Memory,
+        }
+    }
+}
+
+/// The fault of a line behind a site.
+impl From<ItemFault> for Fault {
+    ghost use Rattle.std.specs.Prelude.{◌≡◌};
+    ghost use Rattle.cable_run.specs.Faults.{line_fault};
+
+    ghost from_gives = { λ error fault. fault ≡ line_fault error };
+
+    fn from(error: ItemFault) -> Fault {
+        match error {
+            ItemFault::Refused(refusal) => Fault::OfDocument(refusal),
+            ItemFault::Read => Fault::Read,
+        }
+    }
+}
+
+/// The fault of a document behind its site.
+impl From<DocumentFault> for Fault {
+    ghost use Rattle.std.specs.Prelude.{◌≡◌};
+    ghost use Rattle.cable_run.specs.Faults.{document_fault};
+
+    ghost from_gives = { λ error fault. fault ≡ document_fault error };
+
+    fn from(error: DocumentFault) -> Fault {
+        match error {
+            DocumentFault::Refused(refusal) => Fault::OfDocument(refusal),
+            DocumentFault::Read => Fault::Read,
+            DocumentFault::Memory => Fault::Memory,
+        }
+    }
+}
+
+/// The fault of a search.
+impl From<SearchFault> for Fault {
+    ghost use Rattle.std.specs.Prelude.{◌≡◌};
+    ghost use Rattle.cable_run.specs.Faults.{search_fault};
+
+    ghost from_gives = { λ error fault. fault ≡ search_fault error };
+
+    fn from(error: SearchFault) -> Fault {
+        match error {
+            SearchFault::Write => Fault::Write,
+            SearchFault::Memory => Fault::Memory,
+        }
     }
 }
 
@@ -60,26 +138,5 @@ pub(crate) fn in_document(fault: SiteFault) -> Fault
         }
         SiteFault::Read => Fault::Read,
         SiteFault::Memory => Fault::Memory,
-    }
-}
-
-/// What the fault of a line behind a site is.
-pub(crate) fn of_lines(fault: ItemFault) -> Fault
-    ensures { result ≡ line_fault fault }
-{
-    match fault {
-        ItemFault::Refused(refusal) => Fault::OfDocument(refusal),
-        ItemFault::Read => Fault::Read,
-    }
-}
-
-/// What the fault of a document behind its site is.
-pub(crate) fn of_document(fault: DocumentFault) -> Fault
-    ensures { result ≡ document_fault fault }
-{
-    match fault {
-        DocumentFault::Refused(refusal) => Fault::OfDocument(refusal),
-        DocumentFault::Read => Fault::Read,
-        DocumentFault::Memory => Fault::Memory,
     }
 }

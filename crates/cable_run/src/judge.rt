@@ -26,15 +26,10 @@ pub(crate) fn judge<S: Source, O: Sink>(
 ) -> Result<Ending, Fault>
     ensures { JudgeGives (effect S.left S.faults input.old input.new) (effect O.taken O.faults out.old out.new) result }
 {
-    let (site, layout) = match read_site_and_layout(alloc, input) {
-        Ok(both) => both,
-        Err(fault) => return Err(fault),
-    };
+    let (site, layout) = read_site_and_layout(alloc, input)?;
     let verdict = judge_layout(&site, &layout);
-    match write_verdict(&site, &layout, verdict, out) {
-        Ok(()) => Ok(Ending::Done),
-        Err(_) => Err(Fault::Write),
-    }
+    write_verdict(&site, &layout, verdict, out)?;
+    Ok(Ending::Done)
 }
 
 /// Appends the answer on a layout.

@@ -9,7 +9,7 @@ ghost use Rattle.proof_text.specs.Cables.{HasNumbersOf};
 ghost use Rattle.run_definitions.specs.Effect.{effect};
 ghost use Rattle.cable_run.specs.Steps.{ReadsLayout, ReadsToEnd};
 
-use crate::fault::{Fault, of_lines, of_site};
+use crate::fault::Fault;
 use cable_text::{Lines, Source};
 use layout_meaning::Layout;
 use proof_text::{ItemFault, read_count, read_end, read_layout};
@@ -24,20 +24,10 @@ pub(crate) fn read_site_and_layout<S: Source>(
 ) -> Result<(Site, Layout), Fault>
     ensures { ReadsLayout (effect S.left S.faults input.old input.new) result }
 {
-    let Ok(mut lines) = Lines::new(alloc) else {
-        return Err(Fault::Memory);
-    };
-    let Ok(mut layout) = Layout::new(alloc) else {
-        return Err(Fault::Memory);
-    };
-    let site = match read_site(alloc, &mut lines, input) {
-        Ok(site) => site,
-        Err(fault) => return Err(of_site(fault)),
-    };
-    match read_cables(&site, &mut lines, input, &mut layout) {
-        Ok(()) => {}
-        Err(fault) => return Err(of_lines(fault)),
-    }
+    let mut lines = Lines::new(alloc)?;
+    let mut layout = Layout::new(alloc)?;
+    let site = read_site(alloc, &mut lines, input)?;
+    read_cables(&site, &mut lines, input, &mut layout)?;
     Ok((site, layout))
 }
 

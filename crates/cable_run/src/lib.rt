@@ -10,11 +10,11 @@ mod layout;
 mod notes;
 mod plan;
 mod report;
-mod run;
 mod site;
+mod top;
 mod whole;
 mod words;
 
-pub use crate::run::run;
+pub use crate::top::run;
 pub use crate::words::words_of;
 pub use run_definitions::ending::Ending;

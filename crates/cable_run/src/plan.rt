@@ -19,7 +19,7 @@ use run_definitions::ending::Ending;
 use site_model::Site;
 use site_text::write_site;
 use std::alloc::Global;
-use tree_search::{Plan, SearchFault, search};
+use tree_search::{Plan, search};
 
 /// Reads a site to the end of the input, and prints the document of its plan.
 pub(crate) fn plan<S: Source, O: Sink>(
@@ -32,27 +32,12 @@ pub(crate) fn plan<S: Source, O: Sink>(
     requires most { budget ≤ 50000 }
     ensures { PlanGives budget (effect S.left S.faults input.old input.new) (effect O.taken O.faults out.old out.new) result }
 {
-    let site = match read_site(alloc, input) {
-        Ok(site) => site,
-        Err(fault) => return Err(fault),
-    };
-    let arcs = match Arcs::new(alloc, &site) {
-        Ok(arcs) => arcs,
-        Err(_) => return Err(Fault::Memory),
-    };
-    match write_head(&site, budget, out) {
-        Ok(()) => {}
-        Err(_) => return Err(Fault::Write),
-    }
-    let plan = match search(alloc, &site, &arcs, budget, out) {
-        Ok(plan) => plan,
-        Err(SearchFault::Write) => return Err(Fault::Write),
-        Err(SearchFault::Memory) => return Err(Fault::Memory),
-    };
-    match write_tail(&site, &plan, out) {
-        Ok(()) => Ok(ending_of(plan.claim)),
-        Err(_) => Err(Fault::Write),
-    }
+    let site = read_site(alloc, input)?;
+    let arcs = Arcs::new(alloc, &site)?;
+    write_head(&site, budget, out)?;
+    let plan = search(alloc, &site, &arcs, budget, out)?;
+    write_tail(&site, &plan, out)?;
+    Ok(ending_of(plan.claim))
 }
 
 /// Appends what stands before the items: the site's lines and the budget.

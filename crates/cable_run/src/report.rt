@@ -18,12 +18,7 @@ pub(crate) fn report<S: Source, O: Sink>(
 ) -> Result<Ending, Fault>
     ensures { ReportGives (effect S.left S.faults input.old input.new) (effect O.taken O.faults out.old out.new) result }
 {
-    let (site, accepted) = match read_checked(alloc, input) {
-        Ok(read) => read,
-        Err(fault) => return Err(fault),
-    };
-    match write_report(&site, &accepted.layout, accepted.claim, out) {
-        Ok(()) => Ok(Ending::Done),
-        Err(_) => Err(Fault::Write),
-    }
+    let (site, accepted) = read_checked(alloc, input)?;
+    write_report(&site, &accepted.layout, accepted.claim, out)?;
+    Ok(Ending::Done)
 }

@@ -3,7 +3,7 @@
 ghost use Rattle.run_definitions.specs.Effect.{effect};
 ghost use Rattle.cable_run.specs.Steps.{SiteGives};
 
-use crate::fault::{Fault, of_site};
+use crate::fault::Fault;
 use cable_text::{Sink, Source};
 use run_definitions::ending::Ending;
 use site_input::read_front;
@@ -18,12 +18,7 @@ pub(crate) fn site<S: Source, O: Sink>(
 ) -> Result<Ending, Fault>
     ensures { SiteGives (effect S.left S.faults input.old input.new) (effect O.taken O.faults out.old out.new) result }
 {
-    let site = match read_front(alloc, input) {
-        Ok(site) => site,
-        Err(fault) => return Err(of_site(fault)),
-    };
-    match write_site(&site, out) {
-        Ok(()) => Ok(Ending::Done),
-        Err(_) => Err(Fault::Write),
-    }
+    let site = read_front(alloc, input)?;
+    write_site(&site, out)?;
+    Ok(Ending::Done)
 }

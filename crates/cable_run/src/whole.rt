@@ -3,7 +3,7 @@
 ghost use Rattle.run_definitions.specs.Effect.{effect};
 ghost use Rattle.cable_run.specs.Steps.{ReadsSite};
 
-use crate::fault::{Fault, of_site};
+use crate::fault::Fault;
 use cable_text::Source;
 use site_input::read_whole;
 use site_model::Site;
@@ -13,8 +13,6 @@ use std::alloc::Global;
 pub(crate) fn read_site<S: Source>(alloc: Global, input: &mut S) -> Result<Site, Fault>
     ensures { ReadsSite (effect S.left S.faults input.old input.new) result }
 {
-    match read_whole(alloc, input) {
-        Ok(site) => Ok(site),
-        Err(fault) => Err(of_site(fault)),
-    }
+    let site = read_whole(alloc, input)?;
+    Ok(site)
 }

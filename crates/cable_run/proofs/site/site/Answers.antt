@@ -1,19 +1,22 @@
 use Rattle.std.proofs.Common.{refl}
+use Rattle.std.proofs.lemmas.Result.{err_from_is_err_and}
 use Rattle.run_definitions.specs.Effect.{effect}
 use Rattle.cable_run.proofs.Sites.{front_fails, lines_written, lines_begun}
 use Rattle.cable_run.proofs.site.site.Goals as goal
 
-pub returns-in-Err : goal.returns-in-Err
-returns-in-Err g c =
-    front_fails (effect g.S.Source.left g.S.Source.faults c.args.input.now c.read_front.new.src) (effect g.O.Sink.taken g.O.Sink.faults c.args.out.now c.args.out.now)
-    c.in-Err.fault c.of_site.result c.of_site.ensures refl c.in-Err.ensures.refused c.in-Err.ensures.read
+pub returns-in_err-site : goal.returns-in_err-site
+returns-in_err-site g c =
+    let p = err_from_is_err_and c.from_residual.result c.from_residual.ensures.1 in
+    rw p.1 (front_fails (effect g.S.Source.left g.S.Source.faults c.args.input.now c.read_front.new.src) (effect g.O.Sink.taken g.O.Sink.faults c.args.out.now c.args.out.now)
+    c.in_err-site.field-0.0 p.0 p.2 refl c.in_err-site.ensures.refused c.in_err-site.ensures.read)
 
-pub returns-in-Ok-write_site : goal.returns-in-Ok-write_site
-returns-in-Ok-write_site g c =
-    lines_written (effect g.S.Source.left g.S.Source.faults c.args.input.now c.read_front.new.src) (effect g.O.Sink.taken g.O.Sink.faults c.args.out.now c.write_site.new.out)
-    c.in-Ok.site (record { valid = c.in-Ok.ensures.valid; read = c.in-Ok.ensures.site }) c.in-Ok-write_site.ensures.ok
+pub returns-in_err-write_site : goal.returns-in_err-write_site
+returns-in_err-write_site g c =
+    let p = err_from_is_err_and c.from_residual-in_err-write_site.result c.from_residual-in_err-write_site.ensures.1 in
+    rw (p.1, p.2) (lines_begun (effect g.S.Source.left g.S.Source.faults c.args.input.now c.read_front.new.src) (effect g.O.Sink.taken g.O.Sink.faults c.args.out.now c.write_site.new.out)
+    c.in_ok-site.site (record { valid = c.in_ok-site.ensures.valid; read = c.in_ok-site.ensures.site }) c.in_err-write_site.ensures.failed c.in_err-write_site.ensures.part)
 
 pub returns : goal.returns
 returns g c =
-    lines_begun (effect g.S.Source.left g.S.Source.faults c.args.input.now c.read_front.new.src) (effect g.O.Sink.taken g.O.Sink.faults c.args.out.now c.write_site.new.out)
-    c.in-Ok.site (record { valid = c.in-Ok.ensures.valid; read = c.in-Ok.ensures.site }) c.in-Err-write_site.ensures.failed c.in-Err-write_site.ensures.part
+    lines_written (effect g.S.Source.left g.S.Source.faults c.args.input.now c.read_front.new.src) (effect g.O.Sink.taken g.O.Sink.faults c.args.out.now c.write_site.new.out)
+    c.in_ok-site.site (record { valid = c.in_ok-site.ensures.valid; read = c.in_ok-site.ensures.site }) c.in_ok-write_site.ensures.ok

@@ -3,7 +3,7 @@ use Rattle.run_definitions.specs.Effect.{effect}
 use Rattle.run_definitions.specs.Words.{texts}
 use Rattle.cable_run.proofs.Endings.{command_ends}
 use Rattle.cable_run.proofs.Headlines.{promise_of, bound_of, yes_of, lines_of, judgement_of, report_of, ends_as}
-use Rattle.cable_run.proofs.run.run.Goals as goal
+use Rattle.cable_run.proofs.top.run.Goals as goal
 
 pub returns-in-None-clause-headline : goal.returns-in-None-clause-headline
 returns-in-None-clause-headline g c = λ n bytes s built told site well. absurd (c.in-None.ensures.none (Plan n 1) built)
