@@ -1,12 +1,10 @@
 -- An arc with both ends on one side of another arc's line doesn't clash with it.
-use Rattle.std.proofs.Common.{◌≡◌, ℕ, ℤ, pos, ◌<ℤ◌, ◌≤ℤ◌, List, slice_get, Some, ◌⊎◌, inl, inr, arith, refl, subst, sym}
+use Rattle.std.proofs.Common.{ℤ, List, inl, inr, arith}
 use Rattle.std.proofs.lemmas.Int.{ints}
 use Rattle.std.specs.List.{slice_index_or}
 use Rattle.cable_definitions.specs.declared.cable.Arc.{Arc}
-use Rattle.cable_definitions.specs.declared.site.Point.{Point}
 use Rattle.cable_definitions.specs.Plane.{orient}
 use Rattle.cable_definitions.specs.Site.{Site}
-use Rattle.cable_definitions.specs.Arcs.{IsPoint}
 use Rattle.cable_definitions.specs.Layout.{PairsClash}
 use Rattle.plane_geometry.specs.Sides.{Straddle}
 use Rattle.plane_geometry.proofs.Meeting.{Straddle-from_Meet}

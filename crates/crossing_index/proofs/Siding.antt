@@ -1,5 +1,5 @@
 -- The sides of a line, point by point.
-use Rattle.std.proofs.Common.{◌≡◌, ◌≢◌, ℕ, ◌+◌, ◌<◌, List, length, set, get_or, get_or-set_same, get_or-set_other, slice_get, Some, below_more, arith, sym, subst, ◌∙◌}
+use Rattle.std.proofs.Common.{◌≡◌, ℕ, ◌+◌, ◌<◌, List, length, set, get_or, get_or-set_same, get_or-set_other, slice_get, Some, below_more, arith, sym, subst, ◌∙◌}
 use Rattle.std.specs.List.{slice_index_or}
 use Rattle.std.proofs.lemmas.Option.{get_or_from_slice_get}
 use Rattle.cable_definitions.specs.declared.place.Place.{Place}

@@ -16,7 +16,7 @@ use Rattle.cable_definitions.specs.Site.{Site}
 use Rattle.cable_definitions.specs.Layout.{cost}
 use Rattle.cable_definitions.specs.Row.{Row}
 use Rattle.cable_definitions.specs.Choice.{IsValue}
-use Rattle.cable_definitions.specs.Tree.{Item, RowItem, WorkItem, ProofState, Node, WasSplit, Stopped, WasDead, WasFull, worked, child, marks_of, IsBound, IsActed, IsWorked, IsListed, Accepts, Agrees}
+use Rattle.cable_definitions.specs.Tree.{Item, RowItem, WorkItem, ProofState, Node, WasSplit, Stopped, WasDead, WasFull, worked, child, marks_of, IsActed, IsWorked, IsListed, Accepts, Agrees}
 use Rattle.cable_definitions.specs.Refusal.{IsRowRefused, IsWorkable, IsActRefused, IsWorkRefused, IsClaimRefused}
 use Rattle.proof_laws.proofs.NearestValue.{value-same, bound-same}
 use Rattle.proof_laws.proofs.FullNodes.{full-one}

@@ -1,5 +1,5 @@
 -- The lines behind the site of a document with accepted items and a claim that agrees are read to their end.
-use Rattle.std.proofs.Common.{◌≡◌, ◌≢◌, ℕ, suc, ◌-◌, ◌^◌, ◌<◌, ◌≤◌, ℤ, pos, List, [], ◌∷◌, ◌++◌, length, map, get_or, Some, IsTrue, refl, sym, ap, ◌∙◌, subst, append_assoc, arith, codes, lit≤}
+use Rattle.std.proofs.Common.{◌≡◌, ◌≢◌, ℕ, suc, ◌-◌, ◌^◌, ◌<◌, ◌≤◌, ℤ, pos, List, [], ◌∷◌, ◌++◌, length, map, get_or, Some, refl, sym, ap, ◌∙◌, subst, append_assoc, arith, codes, lit≤}
 use Rattle.std.specs.Prelude.{All, AllPairs, unsigned_abs, neg_ℤ}
 use Rattle.std.specs.List.{concat}
 use Rattle.std.specs.Fmt.{decimal}

@@ -1,5 +1,5 @@
 -- There is one least bound, and a new bound fits.
-use Rattle.std.proofs.Common.{◌≡◌, ℕ, ◌^◌, ◌<◌, ◌≤◌, true, nat_eq, ℤ, pos, negsuc, nat_abs, ◌≤ℤ◌, ◌<ℤ◌, to_z, of_z, arith, sym, subst, eq-eqb}
+use Rattle.std.proofs.Common.{◌≡◌, ℕ, ◌^◌, ◌≤◌, true, nat_eq, ℤ, pos, negsuc, nat_abs, ◌≤ℤ◌, ◌<ℤ◌, to_z, of_z, arith, sym, subst, eq-eqb}
 use Rattle.std.specs.Prelude.{IsTrue}
 use Rattle.std.specs.Int.{w128}
 use Rattle.std.proofs.lemmas.Int.{ints, to_z-of_z}

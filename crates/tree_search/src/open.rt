@@ -1,6 +1,6 @@
 //! The open nodes, and which of them is worked next: one of least bound, as best-first branch and bound does.
 
-ghost use Rattle.std.specs.Prelude.{◌≡◌, ◌⊎◌, ◌<◌, ◌+◌, pos, ◌≤ℤ◌, length, IsTrue, false, Some, IfSome, vec_capacity};
+ghost use Rattle.std.specs.Prelude.{◌≡◌, ◌⊎◌, ◌<◌, ◌+◌, ◌^◌, pos, ◌≤ℤ◌, ◌<ℤ◌, length, IsTrue, false, Some, IfSome, vec_capacity};
 ghost use Rattle.std.specs.List.Sorted.{IsPermutation};
 ghost use Rattle.tree_search.specs.Open.{AreFrom, IsFirstBelow};
 
@@ -80,6 +80,7 @@ pub(crate) fn bring_first_last(numbers: &mut Vec<u32>, tree: &Tree) -> Option<i1
     ensures room { vec_capacity numbers.new ≡ vec_capacity numbers.old }
     ensures least { IfSome result (AreFrom tree.now.nodes numbers.old.items) }
     ensures not_negative { IfSome result (λ bound. pos 0 ≤ℤ bound) }
+    ensures small { IfSome result (λ bound. bound <ℤ pos (2 ^ 100)) }
 {
     match first_open(numbers.as_slice(), tree) {
         None => None,

@@ -230,6 +230,33 @@ impl Progress {
         }
     }
 
+    /// Works the open node of least bound, and writes the work; answers false where none may hold a cheaper layout than the known one, or as many works
+    /// were done as the budget has.
+    ///
+    /// # Errors
+    ///
+    /// `Failed` only where the count of `out` rose or stands at its last value; a first part of the work was appended then.
+    fn go_on<O: Sink>(
+        &mut self,
+        alloc: Global,
+        site: &Site,
+        arcs: &Arcs,
+        out: &mut O,
+    ) -> Result<bool, Failed>
+        requires arcs { AreArcs site.now arcs.now }
+        requires searching { (n : ℕ) × IsSearching site.now arcs.now n self.old }
+        ensures advances { (n : ℕ) → IsSearching site.now arcs.now n self.old
+            → Advances result site.now arcs.now n (kept_of self.old) (kept_of self.new) (O.taken out.old) (O.taken out.new) (O.faults out.old) (O.faults out.new) }
+        ensures searching { OnOk result ((n : ℕ) → IsSearching site.now arcs.now n self.old → IsSearching site.now arcs.now n self.new) }
+        ensures more { IfOk result (λ more. IsTrue more → (self.old.tree.works < self.old.tree.budget) × (self.new.tree.works ≡ self.old.tree.works + 1)) }
+        ensures none { IfOk result (λ more. more ≡ false → IsDone self.new) }
+    {
+        if !self.aim() {
+            return Ok(false);
+        }
+        self.step(alloc, site, arcs, out)
+    }
+
     /// Works open nodes, those of least bound first, until none is left that may hold a cheaper layout than the known one, or the budget is spent.
     ///
     /// # Errors
@@ -249,7 +276,7 @@ impl Progress {
         ensures searching { OnOk result ((n : ℕ) → IsSearching site.now arcs.now n self.old → IsSearching site.now arcs.now n self.new) }
         ensures spent { OnOk result (IsDone self.new) }
     {
-        while self.aim() && self.step(alloc, site, arcs, out)? {}
+        while self.go_on(alloc, site, arcs, out)? {}
         Ok(())
     }
 

@@ -1,4 +1,3 @@
-use Rattle.std.proofs.Common.{refl}
 use Rattle.crossing_index.proofs.Passing.{no_clash_beside}
 use Rattle.crossing_index.proofs.scan.is_clash.Goals as goal
 

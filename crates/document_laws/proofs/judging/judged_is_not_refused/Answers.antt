@@ -1,6 +1,5 @@
 use Rattle.site_laws.proofs.Fronts.{no_fault_in_front}
 use Rattle.document_laws.proofs.Judged.{judged-stands, judge_refused-same}
-use Rattle.cable_definitions.specs.Refusal.{AtJudged}
 use Rattle.document_laws.proofs.judging.judged_is_not_refused.Goals as goal
 
 pub returns-clause-refused : goal.returns-clause-refused
