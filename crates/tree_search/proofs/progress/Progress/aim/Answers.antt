@@ -1,5 +1,4 @@
-use Rattle.std.proofs.Common.{inr, refl, arith}
-use Rattle.tree_search.specs.declared.progress.Progress.{Progress}
+use Rattle.std.proofs.Common.{inr, refl}
 use Rattle.tree_search.proofs.Aiming.{searching-permuted, all-beaten, beaten-passed, some_works}
 use Rattle.tree_search.proofs.progress.Progress.aim.Goals as goal
 
