@@ -120,7 +120,7 @@ begun : (input out : Effect) (s : Site) (n : ℕ) (arcs : List Arc) (items : Lis
     → AppendsPrefix out.before out.after (head_text s n ++ concat (map item_lines items)) → PrintsPart n input out
 begun input out s n arcs items kept read are accepted part =
     let started : IsPlanBegun s n (head_text s n ++ concat (map item_lines items)) =
-      record { arcs = arcs; are_arcs = are; items = items; kept = kept; accepted = accepted; text_is = refl } in
+    record { arcs = arcs; are_arcs = are; items = items; kept = kept; accepted = accepted; text_is = refl } in
     inr (s, head_text s n ++ concat (map item_lines items), read, inl started, part)
 
 -- a first part of what stands before the items

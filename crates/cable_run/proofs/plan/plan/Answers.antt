@@ -38,9 +38,11 @@ returns-in_err-write_tail g c =
     let input = effect g.S.Source.left g.S.Source.faults c.args.input.now c.read_site.new.input in
     let out = effect g.O.Sink.taken g.O.Sink.faults c.args.out.now c.write_tail.new.out in
     let p = err_from_is_err_and c.from_residual-in_err-write_tail.result c.from_residual-in_err-write_tail.ensures.1 in
-    rw (p.1, p.2) (Rose-after _ _ _ c.in_ok-write_head.ensures.count (Rose-after _ _ _ c.in_ok-plan.ensures.count c.in_err-write_tail.ensures.failed),
-    tail_part input out _ _ c.in_ok-site.site c.args.budget c.in_ok-arcs.arcs c.in_ok-plan.plan.layout c.in_ok-plan.plan.claim c.requires.some c.requires.most
-    c.in_ok-site.ensures c.in_ok-arcs.ensures c.in_ok-write_head.ensures.ok c.in_ok-plan.ensures.plan c.in_err-write_tail.ensures.part)
+    rw (p.1, p.2) (
+      Rose-after _ _ _ c.in_ok-write_head.ensures.count (Rose-after _ _ _ c.in_ok-plan.ensures.count c.in_err-write_tail.ensures.failed),
+      tail_part input out _ _ c.in_ok-site.site c.args.budget c.in_ok-arcs.arcs c.in_ok-plan.plan.layout c.in_ok-plan.plan.claim c.requires.some c.requires.most
+          c.in_ok-site.ensures c.in_ok-arcs.ensures c.in_ok-write_head.ensures.ok c.in_ok-plan.ensures.plan c.in_err-write_tail.ensures.part,
+    )
 
 pub returns : goal.returns
 returns g c =
