@@ -1,5 +1,5 @@
 -- What reading an input gives, and what the work of a command gives.
-use Rattle.std.specs.Prelude.{◌≡◌, ℕ, List, [], All, Bool, IsTrue, Option, Some, Result, Ok, Err}
+use Rattle.std.specs.Prelude.{◌≡◌, ℕ, List, [], All, IsTrue, Option, Some, Result, Ok, Err}
 use Rattle.cable_definitions.specs.declared.cable.Arc.{Arc}
 use Rattle.cable_definitions.specs.declared.cable.Cable.{Cable}
 use Rattle.cable_definitions.specs.declared.claim.Cause.{Cause}

@@ -1,6 +1,6 @@
 //! The command `judge`: whether a layout is legal, with its cost, or the first rule that it breaks.
 
-ghost use Rattle.std.specs.Prelude.{◌≡◌, ◌<◌, ℕ, List, All, length};
+ghost use Rattle.std.specs.Prelude.{◌<◌, ℕ, List, All, length};
 ghost use Rattle.cable_definitions.specs.Answers.{legal_line, broken_line};
 ghost use Rattle.cable_text.specs.Stream.{Writes};
 ghost use Rattle.run_definitions.specs.Effect.{effect};

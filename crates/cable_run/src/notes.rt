@@ -2,7 +2,7 @@
 
 ghost use Rattle.std.specs.Prelude.{◌≡◌, ◌⊎◌, ◌≤◌};
 ghost use Rattle.cable_definitions.specs.Answers.{usage_note, site_note, document_note, write_fault_note};
-ghost use Rattle.cable_text.specs.Stream.{Rose, Appends, Writes};
+ghost use Rattle.cable_text.specs.Stream.{Appends, Writes};
 ghost use Rattle.run_definitions.specs.Effect.{effect, Noted, NoteFailed};
 ghost use Rattle.cable_run.specs.Noted.{IsNoted, EndsAs};
 

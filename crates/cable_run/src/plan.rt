@@ -1,6 +1,6 @@
 //! The command `plan`: a site is read to the end of the input, and the document of its plan is printed.
 
-ghost use Rattle.std.specs.Prelude.{◌≡◌, ◌≤◌, [], ◌∷◌, ◌++◌, codes, All};
+ghost use Rattle.std.specs.Prelude.{◌≤◌, [], ◌∷◌, ◌++◌, codes, All};
 ghost use Rattle.std.specs.Fmt.{decimal};
 ghost use Rattle.cable_definitions.specs.Text.{line, site_lines, claim_line};
 ghost use Rattle.cable_text.specs.Stream.{Writes};

@@ -1,6 +1,6 @@
 //! The words that the program is called with.
 
-ghost use Rattle.std.specs.Prelude.{◌≡◌, IfSome, IfNone, ◌∷◌, []};
+ghost use Rattle.std.specs.Prelude.{IfSome, IfNone, ◌∷◌, []};
 ghost use Rattle.run_definitions.specs.Words.{texts, AsksFor, IsNoCommand};
 
 use cable_definitions::command::Command;

@@ -11,14 +11,14 @@ pub report-requires-clause-claim : goal.report-requires-clause-claim
 report-requires-clause-claim g c =
     document_named (effect g.S.Source.left g.S.Source.faults c.args.input.now c.read_checked.new.input) c.in_ok-site.site c.in_ok-site.accepted.claim c.in_ok-site.ensures.0
 
-pub returns-in_err-write_report : goal.returns-in_err-write_report
-returns-in_err-write_report g c =
-    let p = err_from_is_err_and c.from_residual-in_err-write_report.result c.from_residual-in_err-write_report.ensures.1 in
+pub returns-in_err-report : goal.returns-in_err-report
+returns-in_err-report g c =
+    let p = err_from_is_err_and c.from_residual-in_err-report.result c.from_residual-in_err-report.ensures.1 in
     rw (p.1, p.2) (report_begun (effect g.S.Source.left g.S.Source.faults c.args.input.now c.read_checked.new.input) (effect g.O.Sink.taken g.O.Sink.faults c.args.out.now c.report.new.out)
     c.in_ok-site.site c.in_ok-site.accepted.layout c.in_ok-site.accepted.claim c.in_ok-site.ensures.0 c.in_ok-site.ensures.1
-    c.in_err-write_report.ensures.failed c.in_err-write_report.ensures.part)
+    c.in_err-report.ensures.failed c.in_err-report.ensures.part)
 
 pub returns : goal.returns
 returns g c =
     report_written (effect g.S.Source.left g.S.Source.faults c.args.input.now c.read_checked.new.input) (effect g.O.Sink.taken g.O.Sink.faults c.args.out.now c.report.new.out)
-    c.in_ok-site.site c.in_ok-site.accepted.layout c.in_ok-site.accepted.claim c.in_ok-site.ensures.0 c.in_ok-site.ensures.1 c.in_ok-write_report.ensures.ok
+    c.in_ok-site.site c.in_ok-site.accepted.layout c.in_ok-site.accepted.claim c.in_ok-site.ensures.0 c.in_ok-site.ensures.1 c.in_ok-report.ensures.ok
