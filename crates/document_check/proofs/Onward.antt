@@ -20,7 +20,7 @@ use Rattle.cable_definitions.specs.declared.claim.Refusal.{Refusal}
 use Rattle.cable_text.specs.Stream.{GivesFront}
 use Rattle.document_laws.proofs.Going.{claim-same, same_node, same_weights}
 use Rattle.document_laws.proofs.Spelled.{members-read}
-use Rattle.proof_text.specs.Reading.{line_number_after, ReadsTo, ReadsLine, RefusedAfter}
+use Rattle.proof_text.specs.Reading.{line_number_after, ReadsTo, ReadsDocLine, RefusedAfter}
 use Rattle.proof_text.specs.Items.{weight_lines, ReadsRow, ReadsWork}
 use Rattle.proof_text.proofs.Behind.{reads_append}
 use Rattle.document_check.specs.Progress.{ReadsFrom, HasCome, HasRead, IsRefusedFrom, state, items_text}
@@ -39,7 +39,7 @@ from_then s arcs r e f (Some bytes) middle after ls ms h k =
     (d.0, d.1, reads_append s arcs r e f bytes h.0 d.0 ls ms h.2 d.2)
 
 -- a line that is fed
-fed_line : (s : Site) (arcs : List CandidateArc) (r next : Reader) (before after : Option (List ℕ)) (l : DocLine) → ReadsLine s r before after l → ((cause : Cause) → ¬ (IsFoundByFeeding s arcs r l cause)) → GoesOn s arcs r l next
+fed_line : (s : Site) (arcs : List CandidateArc) (r next : Reader) (before after : Option (List ℕ)) (l : DocLine) → ReadsDocLine s r before after l → ((cause : Cause) → ¬ (IsFoundByFeeding s arcs r l cause)) → GoesOn s arcs r l next
     → ReadsFrom s arcs r before after (l ∷ []) next
 fed_line s arcs r next None after l h none goes = h.2
 fed_line s arcs r next (Some bytes) after l h none goes = let found = h.2 in (found.0, found.2, (h.0, found.0, next, found.1, h.1, none, goes, (refl, refl)))
@@ -112,10 +112,10 @@ refused_reading s arcs (Some whole) now start lines r front refusal h d bytes e 
     }
 
 pub refused_feeding : (s : Site) (arcs : List CandidateArc) (first now after : Option (List ℕ)) (start lines : ℕ) (r : Reader) (ls : List DocLine) (l : DocLine) (refusal : Refusal) → ReadsFrom s arcs (reader_at AtBudget) first now ls r → lines ≡ line_number_after start (length ls)
-    → ReadsLine s r now after l → IsLeastCause (IsFoundByFeeding s arcs r l) refusal.cause → refusal.line ≡ line_number_after lines 1 → IsRefusedFrom s arcs first start refusal
+    → ReadsDocLine s r now after l → IsLeastCause (IsFoundByFeeding s arcs r l) refusal.cause → refusal.line ≡ line_number_after lines 1 → IsRefusedFrom s arcs first start refusal
 refused_feeding s arcs None now after start lines r ls l refusal reads m d least n bytes e small = absurd (cc)
 refused_feeding s arcs (Some whole) now after start lines r ls l refusal reads m d least n bytes e small =
-    let P : Option (List ℕ) → Type 0 = λ o. ReadsLine s r o after l in
+    let P : Option (List ℕ) → Type 0 = λ o. ReadsDocLine s r o after l in
     let here = subst P reads.1 d in
     let same : whole ≡ bytes = cc in
     let Q : List ℕ → Type 0 = λ b. ReadsLines s arcs (reader_at AtBudget) b ls r reads.0 in
@@ -235,7 +235,7 @@ work_refused s arcs first now after start lines n kept v weights act refusal h w
 
 -- ---- the claim
 pub claim_on : (s : Site) (arcs : List CandidateArc) (first now after : Option (List ℕ)) (start lines later n : ℕ) (kept : ProofState) (cables : List Cable) (front : List Item → List ℕ) (raw : RawClaim) (claim : Claim) → IsValid s
-    → HasRead s arcs first now start lines (state (AtCables 0) n kept cables) front → IsClaimOf s raw claim → ReadsLine s (state (AtCables 0) n kept cables) now after (ClaimLine raw) → GivesFront now after (claim_line s claim)
+    → HasRead s arcs first now start lines (state (AtCables 0) n kept cables) front → IsClaimOf s raw claim → ReadsDocLine s (state (AtCables 0) n kept cables) now after (ClaimLine raw) → GivesFront now after (claim_line s claim)
     → later ≡ line_number_after lines 1 → ((cause : Cause) → ¬ (IsClaimRefused s n kept cables claim cause)) → HasRead s arcs first after start later (state AtLast n kept cables) (λ items. front items ++ claim_line s claim)
 claim_on s arcs first now after start lines later n kept cables front raw claim valid h of read gives e none =
     read_on s arcs first now after start lines later (AtCables 0) AtLast n kept cables cables front (claim_line s claim) (ClaimLine raw ∷ []) h
@@ -245,7 +245,7 @@ claim_on s arcs first now after start lines later n kept cables front raw claim 
     found cause k = let P : Claim → Type 0 = λ c. IsClaimRefused s n kept cables c cause in none cause (subst P (claim-same s valid raw k.0 claim k.1 of) k.2)
 
 pub claim_refused : (s : Site) (arcs : List CandidateArc) (first now after : Option (List ℕ)) (start lines n : ℕ) (kept : ProofState) (cables : List Cable) (front : List Item → List ℕ) (raw : RawClaim) (claim : Claim) (refusal : Refusal) → IsValid s
-    → HasRead s arcs first now start lines (state (AtCables 0) n kept cables) front → IsClaimOf s raw claim → ReadsLine s (state (AtCables 0) n kept cables) now after (ClaimLine raw)
+    → HasRead s arcs first now start lines (state (AtCables 0) n kept cables) front → IsClaimOf s raw claim → ReadsDocLine s (state (AtCables 0) n kept cables) now after (ClaimLine raw)
     → refusal.line ≡ line_number_after lines 1 → IsLeastCause (IsClaimRefused s n kept cables claim) refusal.cause → IsRefusedFrom s arcs first start refusal
 claim_refused s arcs first now after start lines n kept cables front raw claim refusal valid h of read e least =
     refused_feeding s arcs first now after start lines (state (AtCables 0) n kept cables) h.come.read_lines (ClaimLine raw) refusal h.come.reads h.come.lines_are read

@@ -27,7 +27,7 @@ use Rattle.proof_text.specs.declared.fault.ItemFault.{ItemFault}
 use Rattle.proof_text.specs.declared.fault.ItemFault.TheVariants.{Refused as RefusedItem, Read as ReadItem}
 use Rattle.proof_text.specs.declared.items.Next.{Next}
 use Rattle.proof_text.specs.declared.items.Next.TheVariants.{Row as NextRow, Work as NextWork, Layout as NextLayout}
-use Rattle.proof_text.specs.Reading.{line_number_after, ReadsTo, ReadsLine, RefusedAfter, IfRefused as IfItemRefused}
+use Rattle.proof_text.specs.Reading.{line_number_after, ReadsTo, ReadsDocLine, RefusedAfter, IfRefused as IfItemRefused}
 use Rattle.proof_text.specs.Items.{ItemsState, ReadsRow, ReadsWork, ReadsNext}
 use Rattle.proof_text.specs.Cables.{ReadsCables, cables_left}
 use Rattle.proof_checker.specs.State.{CheckerState, Refuses}
@@ -200,7 +200,7 @@ still_open old mid new e h = ap (λ (c : CheckerState). c.refused) h ∙ e
 
 -- ---- the claim
 pub judged : (s : Site) (c : CheckerState) (before after : Option (List ℕ)) (lines later : ℕ) (cables : List Cable) (claim : Claim) → IsValid s → c.site ≡ s
-    → (raw : RawClaim) × IsClaimOf s raw claim × ((r : Reader) → r.phase ≡ AtCables 0 → ReadsLine s r before after (ClaimLine raw)) → GivesFront before after (claim_line s claim) → later ≡ line_number_after lines 1
+    → (raw : RawClaim) × IsClaimOf s raw claim × ((r : Reader) → r.phase ≡ AtCables 0 → ReadsDocLine s r before after (ClaimLine raw)) → GivesFront before after (claim_line s claim) → later ≡ line_number_after lines 1
     → ((cause : Cause) → ¬ (IsClaimRefused c.site c.budget c.kept cables claim cause))
     → (front : List Item → List ℕ) → ReadsOn s c.arcs before after lines later (state (AtCables 0) c.budget c.kept cables) (state AtLast c.budget c.kept cables) front (λ items. front items ++ claim_line s claim)
 judged s c before after lines later cables claim valid own read gives e none front first start h =
@@ -208,7 +208,7 @@ judged s c before after lines later cables claim valid own read gives e none fro
     claim_on s c.arcs first before after start lines later c.budget c.kept cables front read.0 claim valid h read.1 (read.2 (state (AtCables 0) c.budget c.kept cables) refl) gives e (subst P own none)
 
 pub refused_claim : (s : Site) (c new : CheckerState) (before after : Option (List ℕ)) (lines later number line : ℕ) (cables : List Cable) (claim : Claim) (refusal : Refusal) → IsValid s → c.site ≡ s
-    → (raw : RawClaim) × IsClaimOf s raw claim × ((r : Reader) → r.phase ≡ AtCables 0 → ReadsLine s r before after (ClaimLine raw)) → later ≡ line_number_after lines 1 → number ≡ later → line ≡ number
+    → (raw : RawClaim) × IsClaimOf s raw claim × ((r : Reader) → r.phase ≡ AtCables 0 → ReadsDocLine s r before after (ClaimLine raw)) → later ≡ line_number_after lines 1 → number ≡ later → line ≡ number
     → Refuses c new line (IsClaimRefused c.site c.budget c.kept cables claim) refusal
     → (front : List Item → List ℕ) → RefusesOn s c.arcs before lines (state (AtCables 0) c.budget c.kept cables) front refusal
 refused_claim s c new before after lines later number line cables claim refusal valid own read e n f k front first start h =

@@ -15,7 +15,7 @@ use Rattle.cable_text.specs.declared.fault.LineFault.TheVariants.{TooLong, NoNew
 use Rattle.cable_text.specs.Lines.{ahead, StandsNext, LinesState, ReadsLine, ReadsPiece}
 use Rattle.line_words.specs.Words.{IsCut}
 use Rattle.line_words.specs.Judged.{IsStanding, IsGoodLine, IsBad}
-use Rattle.proof_text.specs.Reading.{line_number_after, ReadsTo, ReadsLine, RefusedAfter}
+use Rattle.proof_text.specs.Reading.{line_number_after, ReadsTo, ReadsDocLine, RefusedAfter}
 use Rattle.line_words.proofs.Decoding.{some_words}
 use Rattle.proof_text.proofs.Causes.{first_line, first_missing, first_form, no_line_past, good_readable, bad_refused}
 
@@ -87,7 +87,7 @@ line_given phase before after text cut_text ws l whole found same cut standing e
 
 -- a line that is fed
 pub line_of_good : (s : Site) (r : Reader) (phase : Phase) (before after : Option (List ℕ)) (text cut_text : List ℕ) (ws : List (List ℕ)) (l : DocLine) → StandsNext before (Whole text) after → cut_text ≡ text → IsCut cut_text ws → IsGoodLine phase ws l
-    → r.phase ≡ phase → NamesHold s r l → ReadsLine s r before after l
+    → r.phase ≡ phase → NamesHold s r l → ReadsDocLine s r before after l
 line_of_good s r phase before after text cut_text ws l found same cut good e names =
     (text, good_readable s r phase text ws l e (subst (λ t. IsCut t ws) same cut) good names, found)
 

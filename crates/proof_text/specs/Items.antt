@@ -15,7 +15,7 @@ use Rattle.proof_text.specs.declared.items.Next.{Next}
 use Rattle.proof_text.specs.declared.items.Next.TheVariants.{Row, Work as WorkNext, Layout}
 use Rattle.line_words.specs.declared.judging.ItemLine.{ItemLine}
 use Rattle.line_words.specs.declared.judging.ItemLine.TheVariants.{Row as RowItemLine, Work as WorkItemLine, Layout as LayoutItemLine}
-use Rattle.proof_text.specs.Reading.{line_number_after, ReadsTo, ReadsLine}
+use Rattle.proof_text.specs.Reading.{line_number_after, ReadsTo, ReadsDocLine}
 
 -- the last row, the last work, and the fault that is kept
 pub record ItemsState : Type 0 where
@@ -30,7 +30,7 @@ weight_lines weights = map (λ (r, w). WeightLine (pos r) w) weights
 
 -- the line of a row is read, with 1 to 256 members
 pub record ReadsRow (before after : Option (List ℕ)) (kind : RowKind) (members : List ℕ) : Type 0 where
-  pub reads : (s : Site) (r : Reader) → r.phase ≡ AtItem → ReadsLine s r before after (RowLine kind (map pos members))
+  pub reads : (s : Site) (r : Reader) → r.phase ≡ AtItem → ReadsDocLine s r before after (RowLine kind (map pos members))
   pub text : GivesFront before after (item_lines (RowItem (record { kind = kind; members = members })))
   pub some : 1 ≤ length members
   pub most : length members ≤ 256
@@ -41,7 +41,7 @@ pub record ReadsWork (before after : Option (List ℕ)) (node : ℕ) (weights : 
   pub reads : (s : Site) (r : Reader) → r.phase ≡ AtItem → ReadsTo s r before middle (WorkLine (pos node) (pos (length weights)) ∷ weight_lines weights) (record r { phase = AtWeights node 0 weights })
   pub raw : RawAct
   pub act_is : act_from raw ≡ act
-  pub reads_act : (s : Site) (r : Reader) → r.phase ≡ AtWeights node 0 weights → ReadsLine s r middle after (ActLine raw)
+  pub reads_act : (s : Site) (r : Reader) → r.phase ≡ AtWeights node 0 weights → ReadsDocLine s r middle after (ActLine raw)
   pub text : GivesFront before after (item_lines (WorkItem node weights act))
   pub first : 1 ≤ node
   pub few : length weights ≤ 1024
@@ -87,7 +87,7 @@ pub record ReadsWeights (before after : Option (List ℕ)) (weights : List (ℕ 
 pub record ReadsAct (before after : Option (List ℕ)) (act : Act) : Type 0 where
   pub raw : RawAct
   pub act_is : act_from raw ≡ act
-  pub reads : (s : Site) (r : Reader) (v : ℕ) (weights : List (ℕ × ℤ)) → r.phase ≡ AtWeights v 0 weights → ReadsLine s r before after (ActLine raw)
+  pub reads : (s : Site) (r : Reader) (v : ℕ) (weights : List (ℕ × ℤ)) → r.phase ≡ AtWeights v 0 weights → ReadsDocLine s r before after (ActLine raw)
   pub text : GivesFront before after (act_line act)
 
 -- the lines of a work behind its first are read

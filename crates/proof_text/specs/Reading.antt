@@ -20,8 +20,8 @@ ReadsTo s start None after ls e = after ≡ None
 ReadsTo s start (Some bytes) after ls e = (rest : List ℕ) × (after ≡ Some rest) × ((arcs : List CandidateArc) → ReadsLines s arcs start bytes ls e rest)
 
 -- the next line may stand where the reader stands, and no cause is found by reading it
-abbrev pub ReadsLine : Site → Reader → Option (List ℕ) → Option (List ℕ) → DocLine → Type 0
-ReadsLine s r before after l = (text : List ℕ) × IsReadable s r (Whole text) l × StandsNext before (Whole text) after
+abbrev pub ReadsDocLine : Site → Reader → Option (List ℕ) → Option (List ℕ) → DocLine → Type 0
+ReadsDocLine s r before after l = (text : List ℕ) × IsReadable s r (Whole text) l × StandsNext before (Whole text) after
 
 -- the first line at which a cause is found by reading, behind lines that are read, with its first cause
 pub record IsRefusedHere (s : Site) (start : Reader) (bytes : List ℕ) (lines : ℕ) (refusal : Refusal) : Type 0 where

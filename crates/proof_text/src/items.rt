@@ -9,7 +9,7 @@ ghost use Rattle.cable_definitions.specs.Refusal.{Reader, BudgetLine, AtBudget, 
 ghost use Rattle.cable_text.specs.Stream.{Rose, GivesFront};
 ghost use Rattle.cable_text.specs.Lines.{ahead};
 ghost use Rattle.proof_text.specs.Items.{ReadsItemLine, ReadsWeight, ReadsWeights, ReadsAct, ReadsRest, ReadsNext, kept_after};
-ghost use Rattle.proof_text.specs.Reading.{line_number_after, ReadsTo, ReadsLine, RefusedAfter, IfRefused, IfRead};
+ghost use Rattle.proof_text.specs.Reading.{line_number_after, ReadsTo, ReadsDocLine, RefusedAfter, IfRefused, IfRead};
 
 use crate::fault::ItemFault;
 use crate::reading::{next_line, refused};

@@ -8,7 +8,7 @@ ghost use Rattle.cable_definitions.specs.Text.{line, claim_line, HasNoNewline, W
 ghost use Rattle.cable_definitions.specs.Refusal.{RawClaim, Reader, LayoutLine, ClaimLine, EndLine, AtJudged, AtAnyCables, AtCables, AtLast, Past, may_end, is_allowed, IsClaimOf, DocLine};
 ghost use Rattle.cable_text.specs.Stream.{Rose, GivesFront, IsAtEnd};
 ghost use Rattle.cable_text.specs.Lines.{ahead, StandsNext};
-ghost use Rattle.proof_text.specs.Reading.{line_number_after, ReadsTo, ReadsLine, RefusedAfter, IfRefused, IfRead};
+ghost use Rattle.proof_text.specs.Reading.{line_number_after, ReadsTo, ReadsDocLine, RefusedAfter, IfRefused, IfRead};
 
 use crate::fault::ItemFault;
 use crate::named::claim_named;
@@ -92,7 +92,7 @@ pub fn read_claim<S: Source>(
 ) -> Result<Claim, ItemFault>
     requires { lines.old.kept ≡ None }
     ensures reads { IfOk result (λ claim. (raw : RawClaim) × IsClaimOf site.now raw claim
-        × ((r : Reader) → r.phase ≡ AtCables 0 → ReadsLine site.now r (ahead lines.old.pending (S.left src.old)) (ahead lines.new.pending (S.left src.new)) (ClaimLine raw))) }
+        × ((r : Reader) → r.phase ≡ AtCables 0 → ReadsDocLine site.now r (ahead lines.old.pending (S.left src.old)) (ahead lines.new.pending (S.left src.new)) (ClaimLine raw))) }
     ensures text { IfOk result (λ claim. GivesFront (ahead lines.old.pending (S.left src.old)) (ahead lines.new.pending (S.left src.new)) (claim_line site.now claim)) }
     ensures range { IfOk result (λ claim. IsClaimInRange claim) }
     ensures kept { OnOk result (lines.new.kept ≡ None) }
