@@ -1,15 +1,12 @@
 -- What a reader finds by reading a line: a cause, or none.
-use Rattle.std.proofs.Common.{◌≡◌, ◌≢◌, ℕ, zero, suc, ◌≤◌, ◌<◌, ℤ, List, [], length, false, refl, sym, ap, ◌∙◌, subst, arith, All}
+use Rattle.std.proofs.Common.{◌≡◌, ◌≢◌, ℕ, zero, suc, ◌<◌, List, [], false, refl, sym, ap, ◌∙◌, subst, arith, All}
 use Rattle.std.specs.Prelude.{IsTrue}
 use Rattle.std.proofs.lemmas.Bool.{not_from_false}
-use Rattle.std.proofs.lemmas.List.{length-map}
-use Rattle.cable_definitions.specs.declared.row.RowKind.{RowKind}
 use Rattle.cable_definitions.specs.declared.claim.Cause.{Cause}
 use Rattle.cable_definitions.specs.declared.claim.Cause.TheVariants.{Line, Form, Site as SiteCause, Row, Limit, Node, Weight, Arc, Dead, Full, Layout, Verdict}
 use Rattle.cable_definitions.specs.Site.{Site}
 use Rattle.cable_definitions.specs.Text.{IsWord, words, Piece, Whole, LongLine, CutLine, NoLine}
-use Rattle.cable_definitions.specs.Numeral.{spelling as spelled}
-use Rattle.cable_definitions.specs.Refusal.{ASplit, AStop, AFull, ADeadRow, ADeadPair, ADeadLoad, ADeadLoop, ADeadPower, ADeadCeiling, AnOptimal, AGap, AnOpen, AnInfeasible, DocLine, BudgetLine, RowLine, WorkLine, WeightLine, ActLine, LayoutLine, CableLine, ClaimLine, EndLine, line_spelling, HasMembers, IsSpelled, IsWithinLimits, Phase, AtBudget, AtItem, AtWeights, AtCables, AtLast, Past, AtJudged, AtAnyCables, Reader, is_allowed, may_end, IsLineAt, NamesHold, IsBroken, IsFoundByReading, IsLeastCause, IsReadable, cause_number}
+use Rattle.cable_definitions.specs.Refusal.{DocLine, line_spelling, IsSpelled, IsWithinLimits, Phase, AtBudget, AtItem, AtWeights, AtCables, AtLast, Past, AtJudged, AtAnyCables, Reader, is_allowed, may_end, IsLineAt, NamesHold, IsBroken, IsFoundByReading, IsLeastCause, IsReadable, cause_number}
 use Rattle.cable_text.proofs.Splitting.{words_injective}
 use Rattle.line_words.specs.Words.{IsCut}
 use Rattle.line_words.specs.Judged.{IsStanding, IsGoodLine, IsBad}

@@ -1,12 +1,11 @@
 -- Verdicts: their claims, and names that are no turbine's.
 use Rattle.std.proofs.Common.{◌≡◌, ℕ, ◌<◌, ◌^◌, ℤ, pos, negsuc, List, [], ◌∷◌, Some, refl, sym, ◌∙◌, ap, subst, All, arith, codes}
-use Rattle.std.specs.Prelude.{nat_abs, IsTrue}
+use Rattle.std.specs.Prelude.{nat_abs}
 use Rattle.std.specs.Fmt.{decimal}
 use Rattle.std.proofs.lemmas.Int.{ints}
 use Rattle.std.proofs.lemmas.List.Elements.{All-head, All-tail}
 use Rattle.cable_definitions.specs.declared.claim.Cause.TheVariants.{Layout}
 use Rattle.cable_definitions.specs.declared.claim.Claim.{Claim}
-use Rattle.cable_definitions.specs.declared.claim.Claim.TheVariants.{Optimal, Gap, Partial, Infeasible}
 use Rattle.cable_definitions.specs.Site.{Site}
 use Rattle.cable_definitions.specs.Text.{line, claim_line, name_of, Whole}
 use Rattle.cable_definitions.specs.Numeral.{spelling as spelled}
@@ -14,11 +13,8 @@ use Rattle.cable_definitions.specs.Document.{IsClaimInRange}
 use Rattle.cable_text.proofs.Numerals.{numeral-decimal}
 use Rattle.cable_definitions.specs.Items.{Field, IsWithin, within}
 use Rattle.cable_definitions.specs.Refusal.{RawClaim, AnOptimal, AGap, AnOpen, AnInfeasible, IsClaimOf, claim_spelling, claim_fields, sum_field, ClaimLine, Phase, AtCables, Reader, IsLineAt, IsFoundByReading, IsLeastCause}
-use Rattle.line_words.specs.declared.number.Number.{Number}
-use Rattle.line_words.specs.Numbers.{Is}
 use Rattle.line_words.specs.Words.{IsCut}
-use Rattle.line_words.specs.Judged.{IsStanding, IsGoodLine, IsBad}
-use Rattle.line_words.proofs.Standing.{bad_one, bad_second}
+use Rattle.line_words.specs.Judged.{IsGoodLine}
 use Rattle.proof_text.proofs.Causes.{line_of, first_layout}
 
 -- ---- the claim of a verdict

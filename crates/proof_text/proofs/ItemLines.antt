@@ -19,8 +19,7 @@ use Rattle.line_words.specs.declared.judging.ItemLine.{ItemLine}
 use Rattle.line_words.specs.declared.judging.ItemLine.TheVariants.{Row, Work, Layout}
 use Rattle.line_words.specs.Words.{IsCut}
 use Rattle.line_words.specs.Judged.{IsGoodLine, item_line}
-use Rattle.proof_text.specs.Reading.{line_number_after}
-use Rattle.proof_text.specs.Items.{ReadsRow, ReadsItemLine, ReadsAct}
+use Rattle.proof_text.specs.Items.{ReadsItemLine, ReadsAct}
 use Rattle.proof_text.proofs.Claims.{spelled_small}
 use Rattle.proof_text.proofs.Streams.{goes_one, line_of_good, line_given}
 
