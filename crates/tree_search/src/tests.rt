@@ -112,7 +112,7 @@ fn one_work(rt: HostRuntime) -> Result<(), Fail> {
     )?;
     let open = Claim::Partial {
         bound: 3000,
-        stuck: 3,
+        stuck: 2,
     };
     assert_eq!(&rt; claim_of(alloc, &square, 1)?, open);
     assert_eq!(&rt; claim_of(alloc, &square, 1023)?, Claim::Infeasible);
