@@ -162,7 +162,7 @@ const FARM: &str =
 
 /// A site, a budget of works, the status, and how the plan ends after one work, or more.
 const SHORT_PLANS: [(&str, &str, u8, &str); 6] = [
-    (FARM, "1", 3, "gap 2421990 1612080\n"),
+    (FARM, "1", 3, "gap 2139030 2003336\n"),
     (
         FORK,
         "1",
@@ -174,7 +174,7 @@ const SHORT_PLANS: [(&str, &str, u8, &str); 6] = [
         SQUARE,
         "1",
         4,
-        "layout 2\ncable A S 0\ncable B A 0\nopen 3000 stuck C\n",
+        "layout 2\ncable A S 0\ncable C A 0\nopen 3000 stuck B\n",
     ),
     (SQUARE, "1023", 5, "layout 0\ninfeasible\n"),
     // No arc leads out of B.
