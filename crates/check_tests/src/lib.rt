@@ -6,4 +6,6 @@ mod checks;
 #[cfg(test)]
 mod reports;
 #[cfg(test)]
+mod sets;
+#[cfg(test)]
 mod weights;
