@@ -55,7 +55,7 @@ fn first_open(alloc: Global, budget: u32) -> Result<Vec<u32>, AllocError>
     Ok(nodes)
 }
 
-/// Adds the nodes that a split makes after so many nodes; the one in which the arc is used is worked next.
+/// Adds the nodes that a split makes after so many nodes; the one in which the arc is used stands last.
 fn push_children(nodes: &mut Vec<u32>, act: Act, count: u32)
     requires count { count ≤ 100001 }
     requires room { length nodes.old.items + 2 ≤ vec_capacity nodes.old }
