@@ -4,6 +4,7 @@ ghost use Rattle.std.specs.Prelude.{◌≤◌, ◌^◌, ◌≡◌, length};
 
 use crate::rows::MOST_WEIGHT;
 use crate::steps::Dual;
+use crate::value::least_free;
 use bound_shares::Shares;
 use bound_value::Weights;
 use cable_definitions::row::RowKind;
@@ -13,20 +14,30 @@ use cable_rows::RowPool;
 const WHOLE: i64 = 1_048_576;
 
 impl Dual {
-    /// Makes the kept weights the tried ones, and each row on the cables out of a turbine the least slack of its links; the first such row of a turbine
-    /// alone has a weight.
+    /// The least slack of the free arcs out of each turbine, under the weights that were valued last; `i128::MAX` where there is none.
+    fn free_lows(&self) -> [i128; 256] {
+        let mut lows = [i128::MAX; 256];
+        for spot in &self.node.spots {
+            if spot.is_turbine {
+                lows[spot.at as usize] = least_free(&self.node, &self.weights, spot);
+            }
+        }
+        lows
+    }
+
+    /// Makes the kept weights the tried ones, and gives each row on the cables out of a turbine the least slack of its free arcs, so that none of them lowers
+    /// the value; the first such row of a turbine alone has a weight.
     fn settle(&mut self, pool: &RowPool) {
         self.try_kept();
         self.value(pool);
+        let lows = self.free_lows();
         let mut is_weighed = [false; 256];
         for row in &mut self.rows {
             let p = row.place as usize;
             if row.kind == RowKind::Out && !is_weighed[p] {
                 is_weighed[p] = true;
-                if let Some(spot) = self.node.spots.get(p) {
-                    if !spot.is_fixed && spot.low < i128::MAX {
-                        row.trial = spot.low.clamp(-MOST_WEIGHT, MOST_WEIGHT);
-                    }
+                if lows[p] < i128::MAX {
+                    row.trial = lows[p].clamp(-MOST_WEIGHT, MOST_WEIGHT);
                 }
             }
         }

@@ -27,8 +27,9 @@ pub(crate) struct Link {
     pub(crate) extra: i128,
 }
 
-/// A point and the places of the links out of it, from `first` up to `past`. A turbine has one cable out of it; of a turbine with an arc that is marked
-/// used only such arcs are links. `least` is the least load out of the point, and `low` is the least slack of a turbine's links.
+/// A point and the places of the links out of it, from `first` up to `past`. A turbine has one cable out of it: where one of its arcs is marked used, its
+/// free arcs stand behind the used ones, up to `rest`, and no step looks at them. `least` is the least load out of the point, and `low` is the least slack
+/// of a turbine's links.
 #[derive(Clone, Copy)]
 pub(crate) struct Spot {
     pub(crate) at: u8,
@@ -37,6 +38,7 @@ pub(crate) struct Spot {
     pub(crate) least: i64,
     pub(crate) first: usize,
     pub(crate) past: usize,
+    pub(crate) rest: usize,
     pub(crate) low: i128,
 }
 
@@ -92,6 +94,11 @@ fn is_left(mark: Option<&Mark>, is_fixed: bool) -> bool {
     }
 }
 
+/// Whether an arc with a mark is free beside one out of its start that is marked used.
+fn is_idle(mark: Option<&Mark>, is_fixed: bool) -> bool {
+    is_fixed && matches!(mark, Some(Mark::Free))
+}
+
 /// Whether a mark is that of a used arc.
 fn is_used(mark: Option<&Mark>) -> bool {
     matches!(mark, Some(Mark::Used))
@@ -121,6 +128,24 @@ fn add_links(
         let mark = marks.get(arc as usize);
         if is_left(mark, spot.is_fixed) {
             links.push(link_of(arcs, arc, is_used(mark), rate))?;
+        }
+    }
+    Ok(())
+}
+
+/// Adds a link for each arc from `first` up to `past` that is free beside a used one.
+fn add_idle_links(
+    links: &mut Vec<Link>,
+    arcs: &Arcs,
+    marks: &[Mark],
+    spot: &Spot,
+    first: u32,
+    past: u32,
+    rate: u64,
+) -> Result<(), AllocError> {
+    for arc in first..past {
+        if is_idle(marks.get(arc as usize), spot.is_fixed) {
+            links.push(link_of(arcs, arc, false, rate))?;
         }
     }
     Ok(())
@@ -164,6 +189,7 @@ fn spot_of(p: u32, kind: Kind, is_marked: bool, first: usize) -> Spot {
         least: i64::from(least),
         first,
         past: first,
+        rest: first,
         low: 0,
     }
 }
@@ -209,6 +235,8 @@ impl Node {
         let rate = least_rate(site.types(), load);
         add_links(&mut self.links, arcs, marks, &spot, first, past, rate)?;
         spot.past = self.links.len();
+        add_idle_links(&mut self.links, arcs, marks, &spot, first, past, rate)?;
+        spot.rest = self.links.len();
         self.spots.push(spot)?;
         Ok(())
     }
@@ -237,4 +265,11 @@ pub(crate) fn links_of<'a>(links: &'a [Link], spot: &Spot) -> &'a [Link] {
     let past = spot.past.min(links.len());
     let first = spot.first.min(past);
     &links[first..past]
+}
+
+/// The links of the free arcs out of a turbine with a used one.
+pub(crate) fn idle_links_of<'a>(links: &'a [Link], spot: &Spot) -> &'a [Link] {
+    let rest = spot.rest.min(links.len());
+    let past = spot.past.min(rest);
+    &links[past..rest]
 }

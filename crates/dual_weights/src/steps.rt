@@ -25,7 +25,7 @@ pub(crate) struct Dual {
     pub(crate) rows: Vec<DualRow>,
     pub(crate) uses: Vec<i64>,
     picks: Vec<Pick>,
-    weights: PointWeights,
+    pub(crate) weights: PointWeights,
     sums: Sums,
     sets: SetBits,
     has_sets: bool,

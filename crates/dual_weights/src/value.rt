@@ -2,7 +2,7 @@
 
 ghost use Rattle.std.specs.Prelude.{◌<◌};
 
-use crate::node::{Grade, Link, Node, Spot, links_of};
+use crate::node::{Grade, Link, Node, Spot, idle_links_of, links_of};
 use crate::rows::DualRow;
 use cable_definitions::row::RowKind;
 use cable_rows::RowPool;
@@ -208,9 +208,9 @@ fn add_cut(node: &mut Node, sets: &SetBits, members: &[u32], row: &DualRow) {
 
 /// Adds the weight of a cut to the links out of a point that leave it.
 fn add_leaving(links: &mut [Link], sets: &SetBits, spot: &Spot, row: &DualRow) {
-    let past = spot.past.min(links.len());
-    let first = spot.first.min(past);
-    for link in &mut links[first..past] {
+    let rest = spot.rest.min(links.len());
+    let first = spot.first.min(rest);
+    for link in &mut links[first..rest] {
         if !sets.has(link.to, row.place) {
             link.extra = link.extra.wrapping_add(row.trial);
         }
@@ -331,6 +331,19 @@ fn pick_all(
         }
     }
     sum
+}
+
+/// The least slack of the free links out of a turbine under the weights that were valued last, over 2^20 of a cost unit: of a turbine with a used link those
+/// beside it. `i128::MAX` where there is none.
+pub(crate) fn least_free(node: &Node, weights: &PointWeights, spot: &Spot) -> i128 {
+    if !spot.is_fixed {
+        return spot.low;
+    }
+    let mut low = i128::MAX;
+    for link in idle_links_of(node.links.as_slice(), spot) {
+        low = low.min(weights.left_of(node.grades.as_slice(), spot, link).slack);
+    }
+    low
 }
 
 /// The value of the tried weights of these rows, over 2^20 of a cost unit, where each row on the cables out of a turbine has its best weight. The picks
