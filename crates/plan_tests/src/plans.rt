@@ -167,7 +167,7 @@ const SHORT_PLANS: [(&str, &str, u8, &str); 6] = [
         FORK,
         "1",
         3,
-        "layout 3\ncable A S 0\ncable B A 0\ncable C A 0\ngap 2000 1875\n",
+        "layout 3\ncable A S 0\ncable B A 0\ncable C A 0\ngap 2000 1987\n",
     ),
     (FIRST, "1", 0, "layout 1\ncable A S 0\noptimal 50000\n"),
     (

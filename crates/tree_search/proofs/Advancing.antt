@@ -38,6 +38,11 @@ pub advances-failed : {A B E F : Type 0} {e : E} {r : Result B F} {s : Site} {ar
 advances-failed {r = Ok v} h p = absurd (cc)
 advances-failed {r = Err f} h p = record { items = p.items; kept = p.kept; leads = p.leads; writes = Writes-err f p.writes; reached = tt }
 
+-- a part that begins with the same, named otherwise
+pub advances-from : {A E : Type 0} {r : Result A E} {s : Site} {arcs : List Arc} {n : ℕ} {old first new : ProofState} {a b : Option (List ℕ)} {i j : ℕ}
+    → old ≡ first → Advances r s arcs n old new a b i j → Advances r s arcs n first new a b i j
+advances-from {r = r} {s} {arcs} {n} {new = new} {a} {b} {i} {j} e p = subst (λ (kept : ProofState). Advances r s arcs n kept new a b i j) e p
+
 -- nothing was done
 pub advances-nothing : {A E : Type 0} (u : A) (s : Site) (arcs : List Arc) (n : ℕ) (old : ProofState) (a : Option (List ℕ)) (i : ℕ) → Advances {A = A} {E = E} (Ok u) s arcs n old old a a i i
 advances-nothing u s arcs n old a i = record { items = []; kept = old; leads = refl; writes = Writes-nothing u a i; reached = refl }

@@ -1,5 +1,6 @@
 pub mod Advancing
 pub mod FirstRows
+pub mod Listing
 pub mod OpenNodes
 pub mod Aiming
 pub mod InOrder

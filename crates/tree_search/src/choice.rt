@@ -1,7 +1,6 @@
 //! The act that is chosen on a node.
 
 ghost use Rattle.std.specs.Prelude.{◌≡◌, ℕ, ◌^◌, ◌≤◌, ◌<◌, ◌↔◌, pos, ◌≤ℤ◌, ◌<ℤ◌, unsigned_abs, length, IsTrue, All, slice_get, Some, IfSome, IfNone};
-ghost use Rattle.cable_definitions.specs.declared.row.Mark.{Mark as AMark};
 ghost use Rattle.cable_definitions.specs.Arcs.{AreArcs};
 ghost use Rattle.cable_definitions.specs.Tree.{marks_of};
 ghost use Rattle.cable_definitions.specs.Row.{IsWellFormed};
@@ -10,8 +9,9 @@ ghost use Rattle.proof_laws.specs.Decided.{HasPointRows};
 ghost use Rattle.branch_tree.specs.State.{IsMade};
 ghost use Rattle.tree_search.specs.Chosen.{BeatTurbines, IsBeaten, IsActFor, IsNodeBound};
 
-use crate::node_weights::weigh_node;
-use bound_value::{Decisions, Mark, Weights, rounded_bound};
+use crate::branching::arc_to_split;
+use crate::node_weights::{Weighed, weigh_node};
+use bound_value::{Decisions, Weights, rounded_bound};
 use branch_tree::{Act, Tree};
 use cable_rows::RowPool;
 use candidate_cables::Arcs;
@@ -26,13 +26,8 @@ pub(crate) struct Choice {
     pub(crate) bound: i128,
 }
 
-/// How many turns improve the weights of a node: more in node 1, whose weights the others begin with.
-fn turns_of(node: u32) -> u32 {
-    if node == 1 { 8 } else { 2 }
-}
-
-/// Marks the arcs as a node decides them, weighs its rows, from the weights of the last work, and answers the bound that the weights give the node,
-/// in cost units.
+/// Marks the arcs as a node decides them, weighs its rows, by the weights of the last work or by those of its nearest arcs, whichever are worth more
+/// there, with each row that may weigh more raised, and answers the bound that the weights give the node, in cost units.
 pub(crate) fn bound_of(
     alloc: Global,
     site: &Site,
@@ -58,22 +53,8 @@ pub(crate) fn bound_of(
     ensures small { result <ℤ pos (2 ^ 100) }
 {
     tree.decisions(node, decisions);
-    let value = weigh_node(alloc, site, arcs, pool, decisions, turns_of(node), weights);
+    let Weighed { value, shares: _ } = weigh_node(alloc, site, arcs, pool, decisions, 0, weights);
     rounded_bound(tree.bound(node), value)
-}
-
-/// The least number of an arc that is free; none where no arc is.
-fn first_free(decisions: &Decisions, arcs: u32) -> Option<u32>
-    requires { length decisions.now ≡ arcs }
-    ensures free { IfSome result (λ arc. slice_get decisions.now arc ≡ Some Mark.Free) }
-    ensures none { IfNone result ((k : ℕ) (mark : AMark) → slice_get decisions.now k ≡ Some mark → ¬ (mark ≡ Mark.Free)) }
-{
-    for arc in 0..arcs {
-        if let Mark::Free = decisions.mark(arc) {
-            return Some(arc);
-        }
-    }
-    None
 }
 
 /// Whether a cost is known and the bound isn't below it.
@@ -88,7 +69,7 @@ pub(crate) fn is_beaten(known: Option<u64>, bound: i128) -> bool
 }
 
 /// Chooses what is done with a node with these decisions and this bound, where this cost is known: it is dead, or full, or stopped where no
-/// layout in its box is cheaper than the known one, or else split on its first free arc.
+/// layout in its box is cheaper than the known one, or else split on the wanted arc, or on its first free one where that isn't free.
 pub(crate) fn choose(
     site: &Site,
     arcs: &Arcs,
@@ -96,6 +77,7 @@ pub(crate) fn choose(
     decisions: &Decisions,
     known: Option<u64>,
     bound: i128,
+    wanted: Option<u32>,
 ) -> Choice
     requires arcs { AreArcs site.now arcs.now }
     requires marks_count { length decisions.now ≡ length arcs.now }
@@ -126,7 +108,7 @@ pub(crate) fn choose(
             bound,
         };
     }
-    match first_free(decisions, arcs.len()) {
+    match arc_to_split(decisions, arcs.len(), wanted) {
         Some(arc) => Choice {
             act: Act::Split(arc),
             bound,

@@ -53,9 +53,11 @@ impl From<Failed> for SearchFault {
 /// the budget has. It begins with a settled layout, where the greedy growth or the straight layout gives a legal one, and stops at each
 /// node that is neither dead nor full and whose bound isn't below the least cost so far.
 ///
-/// Appends each row and each work to `out` when it is made: first the rows of single points, on their cables and on their loads, then the works, the
-/// last made open node first. A node is bounded by dual weights, which `dual_weights::improve` raises from the better of the last work's and those of the
-/// nearest arcs, by 8 turns in node 1 and by 2 in another node.
+/// Appends each row and each work to `out` when it is made: first the rows of single points, on their cables and on their loads, then the works. The open
+/// node of least bound is worked first (best-first branch and bound), of least number among these. It is bounded by dual weights, which
+/// `dual_weights::improve` raises from the better of the last work's and those of the nearest arcs, by 8 turns in node 1 and by 2 in another node. Up to
+/// four times a set of turbines and bends that its shares leave too little is listed, and the weights are raised by one more turn. A node is split on the
+/// free arc whose share is nearest to half a cable, where what lies above half counts half.
 ///
 /// It ends where no node is open, with the cheapest layout or the claim that there is none; or where the budget is spent, with the
 /// cheapest layout so far, settled, and the least bound, or with the grown part where no layout was found.

@@ -12,6 +12,7 @@ ghost use Rattle.tree_search.specs.Found.{IsOutcome};
 ghost use Rattle.tree_search.specs.Progress.{kept_of, IsFresh, IsSearching, IsDone, KeepsBest, Settles};
 
 use crate::choice::{Choice, bound_of, choose, is_beaten};
+use crate::cuts::sharpen;
 use crate::finding::Plan;
 use crate::open::bring_first_last;
 use crate::outcome::{no_layout, part_claim, settled_plan};
@@ -29,8 +30,8 @@ use site_model::Site;
 use std::alloc::{AllocError, Global};
 
 /// The most works, the rows, the tree and its open nodes, and the cheapest layout so far, which is at first the one to begin with, with its cost;
-/// while no cost is known it is a grown part, with a turbine that can't be joined to it. The decisions are those of the node that is worked, and the
-/// work is the last that was done.
+/// while no cost is known it is a grown part, with a turbine that can't be joined to it. The decisions are those of the node that is worked, it is split
+/// on the wanted arc, and the work is the last that was done.
 #[derive(Drop)]
 pub(crate) struct Progress {
     budget: u32,
@@ -41,7 +42,13 @@ pub(crate) struct Progress {
     best: Layout,
     known: Option<u64>,
     stuck: u32,
+    wanted: Option<u32>,
     work: Work,
+}
+
+/// How many turns improve the weights of a node: more in node 1, whose weights the others begin with.
+fn turns_of(node: u32) -> u32 {
+    if node == 1 { 8 } else { 2 }
 }
 
 /// Node 1 alone, with room for the open nodes of so many works.
@@ -141,6 +148,7 @@ impl Progress {
             best: best.layout,
             known: best.known,
             stuck: best.stuck,
+            wanted: None,
             work: Work {
                 node: 0,
                 weights: Weights::new(alloc)?,
@@ -193,6 +201,7 @@ impl Progress {
             &self.decisions,
             self.known,
             bound,
+            self.wanted,
         );
         let count = self.tree.count();
         match self.tree.work(node, act, bound) {
@@ -230,6 +239,48 @@ impl Progress {
         }
     }
 
+    /// Weighs the node that is worked next, lists and writes the sets that its shares leave too little, and notes which arc it is split on where it is
+    /// split.
+    ///
+    /// # Errors
+    ///
+    /// `Failed` only where the count of `out` rose or stands at its last value; a first part of the rows was appended then.
+    fn prepare<O: Sink>(
+        &mut self,
+        alloc: Global,
+        site: &Site,
+        arcs: &Arcs,
+        out: &mut O,
+    ) -> Result<(), Failed>
+        requires arcs { AreArcs site.now arcs.now }
+        requires searching { (n : ℕ) × IsSearching site.now arcs.now n self.old }
+        ensures advances { (n : ℕ) → IsSearching site.now arcs.now n self.old
+            → Advances result site.now arcs.now n (kept_of self.old) (kept_of self.new) (O.taken out.old) (O.taken out.new) (O.faults out.old) (O.faults out.new) }
+        ensures searching { OnOk result ((n : ℕ) → IsSearching site.now arcs.now n self.old → IsSearching site.now arcs.now n self.new) }
+        ensures tree { self.new.tree ≡ self.old.tree }
+    {
+        let Some(node) = self.open_nodes.as_slice().last() else {
+            return Ok(());
+        };
+        let node = *node;
+        if !self.tree.unworked(node) {
+            return Ok(());
+        }
+        self.tree.decisions(node, &mut self.decisions);
+        self.wanted = sharpen(
+            alloc,
+            site,
+            arcs,
+            &mut self.pool,
+            &self.decisions,
+            self.known,
+            turns_of(node),
+            &mut self.work.weights,
+            out,
+        )?;
+        Ok(())
+    }
+
     /// Works the open node of least bound, and writes the work; answers false where none may hold a cheaper layout than the known one, or as many works
     /// were done as the budget has.
     ///
@@ -254,6 +305,7 @@ impl Progress {
         if !self.aim() {
             return Ok(false);
         }
+        self.prepare(alloc, site, arcs, out)?;
         self.step(alloc, site, arcs, out)
     }
 

@@ -44,6 +44,7 @@ returns-in_err-write_work-clause-advances g c = λ n searching.
       open_nodes = c.push_children.new.nodes;
       best = c.settle.new.best;
       stuck = c.args.self.now.stuck;
+      wanted = c.args.self.now.wanted;
       known = c.settle.new.known;
       work = record { node = c.in-Some.node; weights = c.bound_of-bound.new.weights; act = c.choose-act.result.act };
     }
@@ -68,6 +69,7 @@ returns-clause-advances g c = λ n searching.
       open_nodes = c.push_children.new.nodes;
       best = c.settle.new.best;
       stuck = c.args.self.now.stuck;
+      wanted = c.args.self.now.wanted;
       known = c.settle.new.known;
       work = record { node = c.in-Some.node; weights = c.bound_of-bound.new.weights; act = c.choose-act.result.act };
     }
