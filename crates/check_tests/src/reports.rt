@@ -49,7 +49,7 @@ fn what_is_refused_is_not_reported(rt: HostRuntime) -> Result<(), AllocError> {
     let report = ran_with(alloc, &["report"], cut, &[], &[], &[])?;
     assert_eq!(rt; report.status, 6);
     assert!(rt; report.out.is_empty());
-    assert!(rt; report.note.as_slice() == b"document refused: Line at line 17\n".as_slice());
+    assert!(rt; report.note.as_slice() == b"document refused: Line at line 19\n".as_slice());
     Ok(())
 }
 

@@ -50,7 +50,7 @@ fn a_refusal_that_is_not_noted_is_a_write_fault(rt: HostRuntime) -> Result<(), A
         &["site"],
         &["judge"],
     ] {
-        let untold = ran_with(alloc, words, b"", &[], &[], &[2])?;
+        let untold = ran_with(alloc, words, b"", &[], &[], &[1])?;
         assert_eq!(rt; untold.status, 8);
         assert!(rt; untold.out.is_empty());
         assert!(rt; untold.note.ends_with(b"write fault\n"));
@@ -106,7 +106,7 @@ fn an_output_that_fails_is_a_write_fault(rt: HostRuntime) -> Result<(), AllocErr
                 // No more pushes are needed.
                 assert!(rt; cut.out.as_slice() == whole.out.as_slice());
                 assert!(rt; cut.note.is_empty());
-                ended = push > 4;
+                ended = push > 1;
                 break;
             }
             assert_eq!(rt; cut.status, 8);

@@ -81,7 +81,7 @@ fn a_push_that_fails(rt: HostRuntime) -> Result<(), Fail> {
     let alloc = rt.alloc();
     let site = small_site(alloc)?;
     let cables = [(1, 0, 0)];
-    let text = reported(&rt, alloc, &site, &cables, Claim::Infeasible, &[5])?;
+    let text = reported(&rt, alloc, &site, &cables, Claim::Infeasible, &[2])?;
     assert!(&rt; text.as_slice() == b"mode tree\n!".as_slice());
     Ok(())
 }
