@@ -40,7 +40,7 @@ impl<'a> Mover<'a> {
 
     /// Makes a move that is drawn. False where nothing was changed.
     pub(crate) fn propose(&mut self) -> bool {
-        self.state.mark();
+        self.state.mark(self.network);
         let turbines = self.network.farm.turbines();
         let drawn = self.generator.draw(turbines.len());
         let Some(turbine) = turbines.get(drawn).copied() else {

@@ -13,15 +13,18 @@ use layout_meaning::{Cable, Layout};
 use site_model::Site;
 use std::alloc::{AllocError, Global};
 
-/// How many runs there are up to so many turbines.
+/// How many runs there are where there are few or many turbines.
 const RUNS: u64 = 3;
 
-/// How many turbines are few enough for that.
+/// How many turbines are few.
 const FEW_TURBINES: usize = 40;
 
-/// How many runs there are for more turbines: which string leads to which substation is settled early in a run, so further runs serve better than
-/// longer ones.
+/// How many runs there are where the turbines are neither few nor many: which string leads to which substation is settled early in a run, so
+/// further runs serve better than longer ones.
 const MORE_RUNS: u64 = 4;
+
+/// More turbines than these are many: there a run takes longest, and a fourth one found little.
+const MOST_TURBINES: usize = 120;
 
 /// What the first run is drawn from.
 const FIRST_SEED: u64 = 5;
@@ -135,7 +138,7 @@ fn moves_at_once(turbines: usize) -> usize {
 
 /// How many runs there are for so many turbines.
 fn runs_for(turbines: usize) -> u64 {
-    if turbines <= FEW_TURBINES {
+    if turbines <= FEW_TURBINES || turbines > MOST_TURBINES {
         RUNS
     } else {
         MORE_RUNS

@@ -5,14 +5,11 @@ use plane_geometry::{Place, clash};
 use site_model::{Point, Site};
 use std::alloc::{AllocError, Global};
 
-/// How many words a set of segments has: a point has at most 22 near points.
-pub(crate) const WORDS: usize = 88;
+/// The most segments: a point has at most 22 near points.
+pub(crate) const MOST_SEGMENTS: usize = 5632;
 
 /// The number of a pair of points that is no segment.
 const NONE: u16 = u16::MAX;
-
-/// A set of segments, a bit for each.
-pub(crate) type SegmentSet = [u64; WORDS];
 
 /// A segment between two points.
 #[derive(Clone, Copy)]
@@ -83,7 +80,7 @@ impl Segments {
 
     /// Numbers the segment between two points, unless it has a number or there is no room for more.
     pub(crate) fn add(&mut self, p: u8, q: u8, metres: i64, charge: i64) -> Result<(), AllocError> {
-        if self.has(p, q) || self.list.len() >= WORDS * 64 {
+        if self.has(p, q) || self.list.len() >= MOST_SEGMENTS {
             return Ok(());
         }
         let number = u16::try_from(self.list.len()).unwrap_or(NONE);
@@ -138,42 +135,25 @@ impl Segments {
         }
     }
 
-    /// How many segments of a set clash with the one of a number.
-    pub(crate) fn struck(&self, number: usize, used: &SegmentSet) -> i64 {
+    /// Which segments clash with the one of a number: 64 bits in each word. None where there is no such segment.
+    pub(crate) fn clashes_of(&self, number: usize) -> &[u64] {
         let first = number.wrapping_mul(self.words);
         let past = first.wrapping_add(self.words);
-        if self.words > WORDS || first > past || past > self.clashes.len() {
-            return 0;
-        }
-        let row = &self.clashes[first..past];
-        let used = &used[..self.words];
-        if meet(row, used) {
-            count_common(row, used)
+        if first <= past && past <= self.clashes.len() {
+            &self.clashes[first..past]
         } else {
-            0
+            &[]
         }
     }
-}
 
-/// Whether two sets of bits have a common one.
-fn meet(first: &[u64], second: &[u64]) -> bool {
-    let mut all = 0;
-    for (a, b) in first.iter().zip(second.iter()) {
-        all |= *a & *b;
-    }
-    all != 0
-}
-
-/// How many bits two sets of bits have in common.
-fn count_common(first: &[u64], second: &[u64]) -> i64 {
-    let mut count = 0i64;
-    for (a, b) in first.iter().zip(second.iter()) {
-        let common = *a & *b;
-        if common != 0 {
-            count = count.wrapping_add(common.count_ones() as i64);
+    /// Whether the segments of two numbers clash.
+    pub(crate) fn do_clash(&self, number: usize, other: usize) -> bool {
+        let place = number.wrapping_mul(self.words).wrapping_add(other / 64);
+        match self.clashes.get(place) {
+            None => false,
+            Some(word) => *word >> (other % 64) & 1 != 0,
         }
     }
-    count
 }
 
 /// Whether the ranges between two pairs of numbers are apart.

@@ -3,10 +3,13 @@
 use crate::farm::{Farm, Role};
 use crate::network::Network;
 use crate::points::{POINTS, PointSet};
-use crate::segments::{SegmentSet, WORDS};
+use crate::segments::MOST_SEGMENTS;
 
 /// The most changes of a move: it turns at most 256 cables.
 const MOST_CHANGES: usize = 640;
+
+/// The most segments that a move lays or takes away: two a change.
+const MOST_TOUCHED: usize = 1280;
 
 /// The cost of a state, and its faults.
 #[derive(Clone, Copy)]
@@ -40,6 +43,13 @@ struct Change {
     end: u8,
 }
 
+/// A segment on which a move laid a cable, or from which it took one away.
+#[derive(Clone, Copy)]
+struct Touched {
+    segment: usize,
+    laid: bool,
+}
+
 /// A state. The end of a point from which no cable starts is the point itself.
 #[derive(Drop)]
 pub(crate) struct State {
@@ -47,7 +57,10 @@ pub(crate) struct State {
     loads: [u32; POINTS],
     inlets: [u32; POINTS],
     metres: [i64; POINTS],
-    used: SegmentSet,
+    /// How many cables clashed with each segment when the move began.
+    struck: [u16; MOST_SEGMENTS],
+    touched: [Touched; MOST_TOUCHED],
+    touched_count: usize,
     sums: Sums,
     marked: Sums,
     changes: [Change; MOST_CHANGES],
@@ -113,7 +126,12 @@ impl State {
             loads: farm.powers(),
             inlets: [0; POINTS],
             metres: [0; POINTS],
-            used: [0; WORDS],
+            struck: [0; MOST_SEGMENTS],
+            touched: [Touched {
+                segment: 0,
+                laid: false,
+            }; MOST_TOUCHED],
+            touched_count: 0,
             sums: none,
             marked: none,
             changes: [Change { point: 0, end: 0 }; MOST_CHANGES],
@@ -243,17 +261,70 @@ impl State {
         }
     }
 
-    /// Puts a segment into the used ones, or takes it out.
-    fn toggle(&mut self, segment: usize) {
-        let word = segment / 64;
-        if word < WORDS {
-            let bit = 1u64 << (segment % 64);
-            self.used[word] ^= bit;
+    /// Notes that a cable was laid on a segment, or taken away from it.
+    fn touch(&mut self, segment: usize, laid: bool) {
+        if self.touched_count < MOST_TOUCHED {
+            self.touched[self.touched_count] = Touched { segment, laid };
+            self.touched_count += 1;
         }
     }
 
-    /// Counts a cable that starts in a point to an end, which is laid or taken away.
-    fn count_cable(&self, network: &Network, p: u8, segment: usize) -> Sums {
+    /// How many cables clash with a segment: those that did when the move began, and what it changed since. The tests take the row of the touched
+    /// segment, which is most often at hand since a cable lay there.
+    fn clashes_with(&self, network: &Network, segment: usize) -> i64 {
+        let mut count = match self.struck.as_slice().get(segment) {
+            None => 0,
+            Some(count) => *count as i64,
+        };
+        for place in 0..self.touched_count.min(MOST_TOUCHED) {
+            let touched = self.touched[place];
+            if network.segments.do_clash(touched.segment, segment) {
+                count = count.wrapping_add(if touched.laid { 1 } else { -1 });
+            }
+        }
+        count
+    }
+
+    /// How many cables clash with the one on a segment: none where there is no clash at all.
+    fn clashes_of(&self, network: &Network, segment: usize) -> i64 {
+        if self.sums.clashes == 0 {
+            0
+        } else {
+            self.clashes_with(network, segment)
+        }
+    }
+
+    /// Counts for 64 segments, of which bits say which, one cable more or less that clashes with them.
+    fn strike_word(&mut self, first: usize, word: u64, laid: bool) {
+        let mut left = word;
+        for step in 0..64 {
+            if left == 0 {
+                return;
+            }
+            let segment = first.wrapping_add(left.trailing_zeros() as usize);
+            if segment < MOST_SEGMENTS {
+                let count = self.struck[segment];
+                self.struck[segment] = if laid {
+                    count.wrapping_add(1)
+                } else {
+                    count.wrapping_sub(1)
+                };
+            }
+            left &= left.wrapping_sub(1);
+        }
+    }
+
+    /// Counts for the segments that clash with one that a cable was laid on it, or taken away.
+    fn strike(&mut self, network: &Network, touched: Touched) {
+        let mut first = 0usize;
+        for word in network.segments.clashes_of(touched.segment) {
+            self.strike_word(first, *word, touched.laid);
+            first = first.wrapping_add(64);
+        }
+    }
+
+    /// Counts a cable that starts in a point to an end, which is laid or taken away, with so many clashes.
+    fn count_cable(&self, network: &Network, p: u8, segment: usize, clashes: i64) -> Sums {
         let load = self.loads[p as usize];
         let (metres, charge) = match network.segments.get(segment) {
             None => (0, 0),
@@ -263,7 +334,7 @@ impl State {
             cost: metres
                 .wrapping_mul(network.farm.price(load))
                 .wrapping_add(charge),
-            clashes: network.segments.struck(segment, &self.used),
+            clashes,
             overload: network.farm.overload(load),
             excess: 0,
             power: 0,
@@ -277,8 +348,9 @@ impl State {
             return;
         }
         let segment = network.segments.number(p, end);
-        self.toggle(segment);
-        let cable = self.count_cable(network, p, segment);
+        let clashes = self.clashes_of(network, segment);
+        self.touch(segment, false);
+        let cable = self.count_cable(network, p, segment, clashes);
         self.sums.cost = self.sums.cost.wrapping_sub(cable.cost);
         self.sums.clashes = self.sums.clashes.wrapping_sub(cable.clashes);
         self.sums.overload = self.sums.overload.wrapping_sub(cable.overload);
@@ -298,8 +370,9 @@ impl State {
         let Some(pair) = network.segments.get(segment) else {
             return;
         };
-        let cable = self.count_cable(network, p, segment);
-        self.toggle(segment);
+        let clashes = self.clashes_with(network, segment);
+        self.touch(segment, true);
+        let cable = self.count_cable(network, p, segment, clashes);
         self.metres[p as usize] = pair.metres;
         self.sums.cost = self.sums.cost.wrapping_add(cable.cost);
         self.sums.clashes = self.sums.clashes.wrapping_add(cable.clashes);
@@ -348,8 +421,13 @@ impl State {
         }
     }
 
-    /// Begins a move: what follows can be undone.
-    pub(crate) fn mark(&mut self) {
+    /// Begins a move: what follows can be undone, and what was done stays.
+    pub(crate) fn mark(&mut self, network: &Network) {
+        for place in 0..self.touched_count.min(MOST_TOUCHED) {
+            let touched = self.touched[place];
+            self.strike(network, touched);
+        }
+        self.touched_count = 0;
         self.count = 0;
         let sums = self.sums;
         self.marked = sums;
@@ -372,6 +450,7 @@ impl State {
                 self.put_back(network, change);
             }
         }
+        self.touched_count = 0;
         let sums = self.marked;
         self.sums = sums;
     }
@@ -382,7 +461,6 @@ impl State {
         let load = self.loads[p as usize];
         let end = self.ends[p as usize];
         if end != p {
-            self.toggle(network.segments.number(p, end));
             self.inlets[end as usize] = self.inlets[end as usize].wrapping_sub(1);
             self.ends[p as usize] = p;
             self.shift_loads(end, 0u32.wrapping_sub(load));
@@ -396,7 +474,6 @@ impl State {
     fn lay_again(&mut self, network: &Network, p: u8, q: u8, load: u32) {
         let segment = network.segments.number(p, q);
         if let Some(pair) = network.segments.get(segment) {
-            self.toggle(segment);
             self.metres[p as usize] = pair.metres;
             self.inlets[q as usize] = self.inlets[q as usize].wrapping_add(1);
             self.shift_loads(q, load);

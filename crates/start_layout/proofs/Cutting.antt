@@ -1,6 +1,6 @@
 -- What a layout costs at least where the cable out of one point ends elsewhere.
 use Rattle.std.proofs.Common.{◌≡◌, ◌≢◌, ℕ, zero, suc, ◌+◌, ◌≤◌, Bool, true, false, cond, List, [], ◌∷◌, length, take, slice_get, Option, Some, None, option_map, IsTrue, sum_by, inl, inr, arith, refl, sym, ap, ◌∙◌, subst}
-use Rattle.std.specs.Prelude.{◌==◌, ◌||◌}
+use Rattle.std.specs.Prelude.{◌==◌, ◌||◌, slice_index}
 use Rattle.std.specs.List.{list_any, enumerate_from}
 use Rattle.std.proofs.lemmas.Bool.Decides.{eqb_tells}
 use Rattle.std.proofs.lemmas.Option.{slice_get-map}
@@ -18,9 +18,8 @@ use Rattle.layout_laws.proofs.Alike.{cable_out-from, cable_out-place}
 use Rattle.layout_laws.proofs.Arcs.{SameEnds-from_arcs}
 use Rattle.layout_laws.proofs.Typed.{bears-own}
 use Rattle.layout_laws.proofs.Typing.{matched, SameArcs-turned}
-use Rattle.start_layout.specs.declared.floors.Floor.{Floor}
 use Rattle.start_layout.specs.Moves.{re_ended, with_end, MakesNoneBelow}
-use Rattle.start_layout.specs.Floors.{without, IsLeastCost, other_cost, AreOthersAbove, IsFloor}
+use Rattle.start_layout.specs.Floors.{without, IsLeastCost, other_cost, AreLeasts, AreOthersAbove}
 use Rattle.start_layout.proofs.Moving.{end_elsewhere, end_moved}
 use Rattle.start_layout.proofs.Choosing.{take_one_more}
 
@@ -33,7 +32,7 @@ out_behind d cables r c n e = elim (eqb_tells d.from r) [
 ]
 
 -- the first cable out of a point is the one that it was, and the point isn't p
-out_left : (cables : List Cable) (p r : ℕ) (c : Cable) → cable_out (without p cables) r ≡ Some c → (r ≢ p) × (cable_out cables r ≡ Some c)
+pub out_left : (cables : List Cable) (p r : ℕ) (c : Cable) → cable_out (without p cables) r ≡ Some c → (r ≢ p) × (cable_out cables r ≡ Some c)
 out_left [] p r c e = absurd (cc)
 out_left (d ∷ cables) p r c e = elim (eqb_tells d.from p) [
   | inl t ↦ (
@@ -55,7 +54,7 @@ out_left (d ∷ cables) p r c e = elim (eqb_tells d.from p) [
 ]
 
 -- and ends where it does where p's cable ends elsewhere
-end_left : (s : Site) (cables typed : List Cable) (p q : ℕ) → AreCheapTyped s (with_end cables p q) typed → (r : ℕ) (c : Cable) → cable_out (without p cables) r ≡ Some c → end_of typed r ≡ Some c.to
+pub end_left : (s : Site) (cables typed : List Cable) (p q : ℕ) → AreCheapTyped s (with_end cables p q) typed → (r : ℕ) (c : Cable) → cable_out (without p cables) r ≡ Some c → end_of typed r ≡ Some c.to
 end_left s cables typed p q t r c e =
     let left = out_left cables p r c e in
     let same : SameEnds typed (with_end cables p q) = SameEnds-from_arcs typed (with_end cables p q) t.arcs in
@@ -84,7 +83,7 @@ walk_on f further longer (Some c) (Some d) p same more t =
     or_more (f p) (list_any f (further c.to)) (list_any f (longer d.to)) (λ u. more d.to (subst (λ (x : ℕ). IsTrue (list_any f (further x))) e u)) t
 
 -- what a walk passes it passes where further cables start as well
-walk_in : (xs ys : List Cable) → ((r : ℕ) (c : Cable) → cable_out xs r ≡ Some c → end_of ys r ≡ Some c.to) → (f : ℕ → Bool) (steps p : ℕ)
+pub walk_in : (xs ys : List Cable) → ((r : ℕ) (c : Cable) → cable_out xs r ≡ Some c → end_of ys r ≡ Some c.to) → (f : ℕ → Bool) (steps p : ℕ)
     → IsTrue (list_any f (walk steps xs p)) → IsTrue (list_any f (walk steps ys p))
 walk_in xs ys same f zero p t = t
 walk_in xs ys same f (suc steps) p t =
@@ -121,13 +120,6 @@ sum_next f xs i d e =
 ended_at : (cables : List Cable) (p q i : ℕ) (c : Cable) → slice_get cables i ≡ Some c → slice_get (with_end cables p q) i ≡ Some (re_ended p q c)
 ended_at cables p q i c e = slice_get-map (re_ended p q) cables i ∙ ap (option_map (re_ended p q)) e
 
--- it is the cable itself where that starts elsewhere
-same_to : (p q : ℕ) (c : Cable) → c.from ≢ p → (re_ended p q c).to ≡ c.to
-same_to p q c n = elim (eqb_tells c.from p) [
-  | inl t ↦ absurd (n t.1)
-  | inr t ↦ rw t.0 refl
-]
-
 -- what a cable elsewhere costs among the others
 other_elsewhere : (s : Site) (typed : List Cable) (p : ℕ) (d : Cable) → d.from ≢ p → other_cost s typed p d ≡ cost_of s d.from d.to d.grade (load s typed d.from)
 other_elsewhere s typed p d n = elim (eqb_tells d.from p) [
@@ -136,7 +128,7 @@ other_elsewhere s typed p d n = elim (eqb_tells d.from p) [
 ]
 
 -- what costs at least as much as a least cost
-least_there : (s : Site) (low least : ℕ) (from to : ℕ) (typed : List Cable) (d : Cable) → IsLeastCost s from to low least → from ≡ d.from → to ≡ d.to → low ≤ load s typed from
+pub least_there : (s : Site) (low least : ℕ) (from to : ℕ) (typed : List Cable) (d : Cable) → IsLeastCost s from to low least → from ≡ d.from → to ≡ d.to → low ≤ load s typed from
     → Bears s d.grade (load s typed d.from) → least ≤ cost_of s d.from d.to d.grade (load s typed d.from)
 least_there s low least from to typed d less e f l bears =
     let here = less d.grade (load s typed from) l (subst (λ (x : ℕ). Bears s d.grade (load s typed x)) (sym e) bears) in
@@ -144,23 +136,23 @@ least_there s low least from to typed d less e f l bears =
     subst (λ (n : ℕ). least ≤ n) same here
 
 -- a further cable takes nothing away
-pub others_kept : (s : Site) (cables : List Cable) (p i base : ℕ) (c : Cable) → slice_get cables i ≡ Some c → AreOthersAbove s cables p i base → AreOthersAbove s cables p (i + 1) base
-others_kept s cables p i base c e above q typed t l =
+pub others_kept : (s : Site) (cables : List Cable) (p q i base : ℕ) (c : Cable) → slice_get cables i ≡ Some c → AreOthersAbove s cables p q i base → AreOthersAbove s cables p q (i + 1) base
+others_kept s cables p q i base c e above typed t l =
     let m = matched (with_end cables p q) typed (SameArcs-turned typed (with_end cables p q) t.arcs) i (re_ended p q c) (ended_at cables p q i c e) in
-    omega (arith, above q typed t l, sum_next (other_cost s typed p) typed i m.cable m.is_cable)
+    omega (arith, above typed t l, sum_next (other_cost s typed p) typed i m.cable m.is_cable)
 
 -- one that starts elsewhere adds what it costs at least
-pub others_added : (s : Site) (cables : List Cable) (p i base least total : ℕ) (c : Cable) → slice_get cables i ≡ Some c → AreOthersAbove s cables p i base → c.from ≢ p
-    → IsLeastCost s c.from c.to (load s (without p cables) c.from) least → total ≤ base + least → AreOthersAbove s cables p (i + 1) total
-others_added s cables p i base least total c e above n less within q typed t l =
+pub others_added : (s : Site) (cables : List Cable) (p q i base total : ℕ) (leasts : List ℕ) (c : Cable) → slice_get cables i ≡ Some c → AreOthersAbove s cables p q i base → c.from ≢ p
+    → AreLeasts s cables p q leasts → total ≤ base + slice_index leasts c.from → AreOthersAbove s cables p q (i + 1) total
+others_added s cables p q i base total leasts c e above n below within typed t l =
     let m = matched (with_end cables p q) typed (SameArcs-turned typed (with_end cables p q) t.arcs) i (re_ended p q c) (ended_at cables p q i c e) in
     let d : Cable = m.cable in
-    let to : c.to ≡ d.to = sym (same_to p q c n) ∙ m.to in
     let from : c.from ≡ d.from = m.from in
-    let bears = bears-own s typed l.range l.capacity i d m.is_cable in
-    let paid = least_there s (load s (without p cables) c.from) least c.from c.to typed d less from to (load_left s cables typed p q t c.from) bears in
-    let more = other_elsewhere s typed p d (λ g. n (from ∙ g)) in
-    omega (arith, above q typed t l, sum_next (other_cost s typed p) typed i d m.is_cable, paid, more, within)
+    let elsewhere : d.from ≢ p = λ g. n (from ∙ g) in
+    let paid = below typed t l i d m.is_cable elsewhere in
+    let same : slice_index leasts c.from ≡ slice_index leasts d.from = ap (slice_index leasts) from in
+    let more = other_elsewhere s typed p d elsewhere in
+    omega (arith, above typed t l, sum_next (other_cost s typed p) typed i d m.is_cable, paid, same, more, within)
 
 -- the others and a cable out of p are within the whole
 others_and_one : (s : Site) (whole : List Cable) (p : ℕ) (xs : List Cable) (i : ℕ) (d : Cable) → slice_get xs i ≡ Some d → d.from ≡ p
@@ -191,7 +183,7 @@ others_and_one s whole p (x ∷ xs) (suc i) d e f =
 
 -- ---- an arc that makes nothing below a bound
 -- the others and the least cost of the arc's cable are within the cost of what it makes
-made_above : (s : Site) (cables typed : List Cable) (p q others price low bound : ℕ) → AreOthersAbove s cables p (length cables) others → low ≤ load s typed p
+made_above : (s : Site) (cables typed : List Cable) (p q others price low bound : ℕ) → AreOthersAbove s cables p q (length cables) others → low ≤ load s typed p
     → IsLeastCost s p q low price → bound ≤ others + price → AreCheapTyped s (with_end cables p q) typed → IsLegal s typed → end_of typed p ≡ Some q
     → (o : Option Cable) → cable_out typed p ≡ o → bound ≤ cost s typed
 made_above s cables typed p q others price low bound above l less within t legal ends None e =
@@ -203,16 +195,14 @@ made_above s cables typed p q others price low bound above l less within t legal
     let place = cable_out-place typed p d e in
     let bears = bears-own s typed legal.range legal.capacity place.0 d place.1 in
     let paid = least_there s low price p q typed d less from to l bears in
-    omega (arith, above q typed t legal, paid, within, sum_by-take-le (other_cost s typed p) typed (length cables), others_and_one s typed p typed place.0 d place.1 (sym from))
+    omega (arith, above typed t legal, paid, within, sum_by-take-le (other_cost s typed p) typed (length cables), others_and_one s typed p typed place.0 d place.1 (sym from))
 
--- an arc makes nothing below a bound that the floor at its start and its own least cost reach
-pub none_where_floor : (s : Site) (cables : List Cable) (f : Floor) (arc : Arc) (price bound : ℕ) → f.start ≡ arc.from → IsFloor s cables f → IsLeastCost s arc.from arc.to f.load price
-    → bound ≤ f.others + price → MakesNoneBelow s cables bound arc
-none_where_floor s cables f arc price bound e floor less within start typed t legal =
+-- an arc makes nothing below a bound that what the others cost at least and its own least cost reach
+pub none_where_dear_others : (s : Site) (cables : List Cable) (arc : Arc) (others price low bound : ℕ) → AreOthersAbove s cables arc.from arc.to (length cables) others
+    → low ≤ load s (without arc.from cables) arc.from → IsLeastCost s arc.from arc.to low price → bound ≤ others + price → MakesNoneBelow s cables bound arc
+none_where_dear_others s cables arc others price low bound above within less reached start typed t legal =
     let p = arc.from in
     let q = arc.to in
     let same : SameEnds typed (with_end cables p q) = SameEnds-from_arcs typed (with_end cables p q) t.arcs in
-    let above : AreOthersAbove s cables p (length cables) f.others = subst (λ (x : ℕ). AreOthersAbove s cables x (length cables) f.others) e floor.others_above in
-    let there : AreCheapTyped s (with_end cables f.start q) typed = subst (λ (x : ℕ). AreCheapTyped s (with_end cables x q) typed) (sym e) t in
-    let low : f.load ≤ load s typed p = subst (λ (x : ℕ). f.load ≤ load s typed x) e (floor.load_below q typed there) in
-    made_above s cables typed p q f.others price f.load bound above low less within t legal (same p ∙ end_moved cables p q start) (cable_out typed p) refl
+    let bears : low ≤ load s typed p = omega (arith, within, load_left s cables typed p q t p) in
+    made_above s cables typed p q others price low bound above bears less reached t legal (same p ∙ end_moved cables p q start) (cable_out typed p) refl

@@ -10,5 +10,7 @@ pub mod Straightening
 pub mod Refusing
 -- what a layout costs at least where one cable ends elsewhere
 pub mod Cutting
+-- what cables bear and cost besides on the walk from the new end of one of them
+pub mod Gaining
 -- the straight layout beside an incumbent
 pub mod Comparing

@@ -8,7 +8,7 @@ use candidate_cables::Arc;
 use layout_meaning::Outgoing;
 
 /// The most steps of a walk: one for each point that a site may have.
-const MOST_STEPS: u32 = 256;
+pub(crate) const MOST_STEPS: u32 = 256;
 
 /// Whether the walk from an arc's end passes its start.
 fn leads_back(cables: &Outgoing, arc: Arc) -> bool

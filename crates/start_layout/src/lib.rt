@@ -7,8 +7,6 @@ mod growing;
 mod settling;
 mod starting;
 mod straight;
-#[cfg(test)]
-mod tests;
 mod types;
 
 pub use settling::improve_layout;

@@ -2,13 +2,14 @@
 
 ghost use Rattle.std.specs.Prelude.{◌≡◌, ℕ, ◌<◌, ◌≤◌, length, IfOk, IfNone, IfSome};
 ghost use Rattle.cable_definitions.specs.Arcs.{AreArcs};
-ghost use Rattle.cable_definitions.specs.Layout.{KeepsRange, IsLegal, cost as cost_of_all};
+ghost use Rattle.cable_definitions.specs.Site.{IsValid};
+ghost use Rattle.cable_definitions.specs.Layout.{KeepsRange, IsLegal, Starts, cost as cost_of_all};
 ghost use Rattle.cable_definitions.specs.Part.{IsSettled};
 ghost use Rattle.start_layout.specs.Moves.{MakesLegal, MakesNoneBelow, IsBestMove};
 ghost use Rattle.start_layout.specs.Floors.{IsFloor};
 
 use crate::circles::is_open;
-use crate::floors::{Floor, floor_of, least_cost};
+use crate::floors::{Floor, is_dear, move_floor, no_floor};
 use crate::types::{cost_at, with_end};
 use candidate_cables::{Arc, Arcs};
 use layout_meaning::{Cable, Layout, Outgoing, Verdict, judge};
@@ -68,7 +69,7 @@ fn settle(site: &Site, arcs: &Arcs, layout: &mut Layout, trial: &mut Layout)
     ensures less { ¬ (IsSettled site.now layout.old) → cost_of_all site.now layout.new < cost_of_all site.now layout.old }
 {
     let mut cost = cost_of(site, layout);
-    while let Some(arc) = best_move(site, arcs, layout.cables(), cost, trial) {
+    while let Some(arc) = best_move(site, arcs, &Outgoing::new(layout.cables()), cost, trial) {
         let _ = with_end(site, layout.cables(), arc, trial);
         replace(layout, trial.cables());
         cost = cost_of(site, layout);
@@ -76,31 +77,31 @@ fn settle(site: &Site, arcs: &Arcs, layout: &mut Layout, trial: &mut Layout)
 }
 
 /// The cost, in cost units, of the layout with the arc's end and the cheapest types, which is then left in `trial`. None where that isn't legal
-/// or costs no less than the bound; most often the floor at the arc's start and what the arc's own cable costs at least tell.
+/// or costs no less than the bound; most often the floor at the arc's start tells.
 fn cost_below(
     site: &Site,
-    cables: &[Cable],
+    cables: &Outgoing,
     arc: Arc,
-    floor: Floor,
+    floor: &Floor,
     bound: u64,
     trial: &mut Layout,
 ) -> Option<u64>
+    requires valid { IsValid site.now }
     requires few { length cables.now ≤ 256 }
     requires range { (i : ℕ) → KeepsRange site.now cables.now i }
     requires from { arc.from < length site.now.points }
     requires to { arc.to < length site.now.points }
-    requires floor { IsFloor site.now cables.now floor }
-    requires start { floor.start ≡ arc.from }
+    requires starts { Starts cables.now arc.from }
+    requires floor { IsFloor site.now cables.now floor.now }
+    requires start { floor.now.start ≡ arc.from }
     ensures none { IfNone result (MakesNoneBelow site.now cables.now bound arc) }
     ensures some { IfSome result (MakesLegal site.now cables.now arc) }
     ensures below { IfSome result (λ cost. cost < bound) }
 {
-    let price = least_cost(site, arc.from, arc.to, floor.load);
-    let least = floor.others.saturating_add(price);
-    if least >= bound {
+    if is_dear(site, cables, arc, floor, bound) {
         return None;
     }
-    let loads = with_end(site, cables, arc, trial);
+    let loads = with_end(site, cables.cables(), arc, trial);
     let cost = cost_at(site, trial.cables(), &loads)?;
     if cost >= bound {
         return None;
@@ -116,7 +117,7 @@ fn cost_below(
 fn best_move(
     site: &Site,
     arcs: &Arcs,
-    cables: &[Cable],
+    cables: &Outgoing,
     cost: u64,
     trial: &mut Layout,
 ) -> Option<Arc>
@@ -127,19 +128,15 @@ fn best_move(
     ensures none { IfNone result (IsSettled site.now cables.now) }
     ensures best { IfSome result (IsBestMove site.now arcs.now cables.now) }
 {
-    let outgoing = Outgoing::new(cables);
+    let _points = site.points();
     let mut least = cost;
     let mut best = None;
-    let mut floor = Floor {
-        start: u32::MAX,
-        others: 0,
-        load: 0,
-    };
+    let mut floor = no_floor();
     for number in 0..arcs.len() {
         let arc = arcs.get(number);
-        floor = floor_of(site, cables, arc.from, floor, trial);
-        if is_open(&outgoing, arc) {
-            if let Some(less) = cost_below(site, cables, arc, floor, least, trial) {
+        move_floor(site, cables, arc.from, &mut floor, trial);
+        if is_open(cables, arc) {
+            if let Some(less) = cost_below(site, cables, arc, &floor, least, trial) {
                 least = less;
                 best = Some(arc);
             }

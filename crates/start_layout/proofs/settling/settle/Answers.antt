@@ -10,7 +10,7 @@ pub loop-arc-preserved : goal.loop-arc-preserved
 loop-arc-preserved c =
     let s = c.args.site.now in
     let a = c.in-Some.arc in
-    let best = subst (λ (xs : List Cable). IsBestMove s c.args.arcs.now xs a) c.cables.ensures.value c.in-Some.ensures.best in
+    let best = subst (λ (xs : List Cable). IsBestMove s c.args.arcs.now xs a) (c.new.ensures ∙ c.cables.ensures.value) c.in-Some.ensures.best in
     let typed = subst (λ (xs : List Cable). AreCheapTyped s (with_end xs a.from a.to) c.with_end.new.into) c.cables-in-Some.ensures.value c.with_end.ensures.typed in
     let next = moved_on s c.args.arcs.now c.args.layout.now c.loop-arc.layout c.with_end.new.into a best typed c.loop-arc.invariant.moved in
     let same = sym (c.replace.ensures ∙ c.cables-in-Some-2.ensures.value) in
