@@ -1,6 +1,6 @@
 -- Points where a flow may end.
 use Rattle.std.proofs.Common.{◌≡◌, ◌≢◌, ℕ, zero, suc, ◌+◌, ◌-◌, ◌≤◌, ◌<◌, ◌⊎◌, inl, inr, Bool, true, false, cond, List, Some, count_by, length, refl, ap, sym, ◌∙◌, arith, subst, replicate, below_more, eqb}
-use Rattle.std.specs.Prelude.{slice_set, slice_index_or, ◌^◌}
+use Rattle.std.specs.Prelude.{slice_set, slice_index_or}
 use Rattle.std.proofs.lemmas.Bool.{false≢true, cases_order}
 use Rattle.std.proofs.lemmas.Bool.Decides.{eqb_tells}
 use Rattle.std.proofs.lemmas.List.{length-set, get_or-set_same, get_or-set_other, get_or-replicate, get_or_past, length-replicate}
@@ -13,7 +13,7 @@ use Rattle.cable_definitions.specs.Arcs.{kind_of, kind_from, is_substation}
 use Rattle.bound_shares.specs.Shares.{shares_where, leaves}
 use Rattle.flow_laws.specs.Flow.{HasNoEnd, IsFlow, IsWithinShares}
 use Rattle.flow_laws.proofs.Flows.{flow_leaves}
-use Rattle.cut_makers.specs.Ends.{is_end, IsWellLeft, AreEnds}
+use Rattle.cut_makers.specs.Ends.{is_end, IsLeftBy, AreEnds}
 
 -- ---- one more end
 -- ends stay
@@ -32,18 +32,26 @@ was_end ends p q e = by_case (eqb_tells q p)
     by_case (inl same) = inl same.1
     by_case (inr other) = inr (sym (get_or-set_other ends p q true false other.1) ∙ e)
 
--- a point that is well left
-pub AreEnds-more : (s : Site) (arcs : List Arc) (shares : List ℕ) (ends : List Bool) (p : ℕ) → AreEnds s arcs shares ends → p < 256 → IsWellLeft s arcs shares p
-    → AreEnds s arcs shares (slice_set ends p true)
-AreEnds-more s arcs shares ends p are h well = record {
+-- a point that is left by enough
+pub AreEnds-more : (s : Site) (arcs : List Arc) (shares : List ℕ) (least : ℕ) (ends : List Bool) (p : ℕ) → AreEnds s arcs shares least ends → p < 256 → IsLeftBy s arcs shares least p
+    → AreEnds s arcs shares least (slice_set ends p true)
+AreEnds-more s arcs shares least ends p are h well = record {
   size = length-set ends p true ∙ are.size;
   substations = λ q k. stays ends p q (omega (arith, h, are.size)) (are.substations q k);
   others = λ q k elsewhere. by_case q elsewhere (was_end ends p q k);
 }
   where
-    by_case : (q : ℕ) → is_substation (kind_of s q) ≡ false → (q ≡ p) ⊎ (is_end ends q ≡ true) → IsWellLeft s arcs shares q
-    by_case q elsewhere (inl same) = subst (IsWellLeft s arcs shares) (sym same) well
+    by_case : (q : ℕ) → is_substation (kind_of s q) ≡ false → (q ≡ p) ⊎ (is_end ends q ≡ true) → IsLeftBy s arcs shares least q
+    by_case q elsewhere (inl same) = subst (IsLeftBy s arcs shares least) (sym same) well
     by_case q elsewhere (inr before) = are.others q before elsewhere
+
+-- less is asked
+pub AreEnds-lower : (s : Site) (arcs : List Arc) (shares : List ℕ) (least low : ℕ) (ends : List Bool) → low ≤ least → AreEnds s arcs shares least ends → AreEnds s arcs shares low ends
+AreEnds-lower s arcs shares least low ends h are = record {
+  size = are.size;
+  substations = are.substations;
+  others = λ p e elsewhere inside none i. let k = are.others p e elsewhere inside none i in omega (arith, h, k);
+}
 
 -- how many ends there are
 abbrev pub how_many : List Bool → ℕ
@@ -115,24 +123,24 @@ all_substations s ends p are h q = elim (cases_order q p) [
     past k = are.above q k ∙ sym (ap (λ o. is_substation (kind_from o)) (slice_get_past s.points q (omega (arith, h, k))))
 
 -- where the substations are the ends
-pub substations_are_ends : (s : Site) (arcs : List Arc) (shares : List ℕ) (ends : List Bool) → length ends ≡ 256 → ((p : ℕ) → is_end ends p ≡ is_substation (kind_of s p))
-    → AreEnds s arcs shares ends
-substations_are_ends s arcs shares ends size same = record {
+pub substations_are_ends : (s : Site) (arcs : List Arc) (shares : List ℕ) (least : ℕ) (ends : List Bool) → length ends ≡ 256 → ((p : ℕ) → is_end ends p ≡ is_substation (kind_of s p))
+    → AreEnds s arcs shares least ends
+substations_are_ends s arcs shares least ends size same = record {
   size = size;
   substations = λ p e. same p ∙ e;
   others = λ p e elsewhere. absurd (false≢true (sym elsewhere ∙ sym (same p) ∙ e));
 }
 
 -- no substation stands where no flow may end
-pub no_substation_there : (s : Site) (arcs : List Arc) (shares : List ℕ) (ends : List Bool) (p : ℕ) → AreEnds s arcs shares ends → is_end ends p ≡ false
+pub no_substation_there : (s : Site) (arcs : List Arc) (shares : List ℕ) (least : ℕ) (ends : List Bool) (p : ℕ) → AreEnds s arcs shares least ends → is_end ends p ≡ false
     → is_substation (kind_of s p) ≡ false
-no_substation_there s arcs shares ends p are e = by_case (is_substation (kind_of s p)) (are.substations p)
+no_substation_there s arcs shares least ends p are e = by_case (is_substation (kind_of s p)) (are.substations p)
   where
     by_case : (b : Bool) → (b ≡ true → is_end ends p ≡ true) → b ≡ false
     by_case true k = absurd (false≢true (sym e ∙ k refl))
     by_case false k = refl
 
--- ---- a whole cable
+-- ---- what a flow tells
 -- some number below n passes two tests, or none does
 some_or_none : (inside ends : ℕ → Bool) (n : ℕ) → ((p : ℕ) × (inside p ≡ true) × (ends p ≡ true)) ⊎ ((p : ℕ) → p < n → inside p ≡ true → ends p ≡ false)
 some_or_none inside ends zero = inr (λ p h e. absurd (omega (arith, h)))
@@ -148,10 +156,10 @@ some_or_none inside ends (suc n) = by_last (inside n) (ends n) refl refl (some_o
     by_last true false e f (inr none) = inr (one_more none (λ k. f))
     by_last false c e f (inr none) = inr (one_more none (λ k. absurd (false≢true (sym e ∙ k))))
 
--- Where the flow is a whole cable: a set that holds an end is left by enough since that point is well left, and the flow leaves any other one.
-pub well_left : (s : Site) (arcs : List Arc) (shares flow : List ℕ) (ends : List Bool) (turbine value : ℕ) → AreEnds s arcs shares ends
-    → IsFlow (is_end ends) arcs flow turbine value → IsWithinShares flow shares → 2 ^ 20 ≤ value → IsWellLeft s arcs shares turbine
-well_left s arcs shares flow ends turbine value are is_flow within h inside none e = by_end (some_or_none inside (is_end ends) (length ends))
+-- A set that holds an end is left by enough since each set of that point is, and the flow leaves any other one.
+pub left_by_flow : (s : Site) (arcs : List Arc) (shares flow : List ℕ) (ends : List Bool) (least low turbine value : ℕ) → AreEnds s arcs shares least ends
+    → IsFlow (is_end ends) arcs flow turbine value → IsWithinShares flow shares → low ≤ least → low ≤ value → IsLeftBy s arcs shares low turbine
+left_by_flow s arcs shares flow ends least low turbine value are is_flow within l h inside none e = by_end (some_or_none inside (is_end ends) (length ends))
   where
     no_end : ((p : ℕ) → p < length ends → inside p ≡ true → is_end ends p ≡ false) → HasNoEnd (is_end ends) inside
     no_end outside p i = elim (cases_order p (length ends)) [
@@ -161,8 +169,8 @@ well_left s arcs shares flow ends turbine value are is_flow within h inside none
     ]
 
     by_end : ((p : ℕ) × (inside p ≡ true) × (is_end ends p ≡ true)) ⊎ ((p : ℕ) → p < length ends → inside p ≡ true → is_end ends p ≡ false)
-        → 2 ^ 20 ≤ shares_where (leaves inside) arcs shares
-    by_end (inl (p, i, t)) = are.others p t (none p i) inside none i
+        → low ≤ shares_where (leaves inside) arcs shares
+    by_end (inl (p, i, t)) = let k = are.others p t (none p i) inside none i in omega (arith, l, k)
     by_end (inr outside) = let k = flow_leaves (is_end ends) arcs flow shares turbine value inside is_flow within (no_end outside) e in omega (arith, h, k)
 
 -- ---- reading points
