@@ -1,6 +1,6 @@
 -- The text of a plan from its parts, and what its writers ask for.
-use Rattle.std.proofs.Common.{◌≡◌, ℕ, suc, ◌<◌, ◌≤◌, inl, inr, List, [], ◌∷◌, ◌++◌, length, map, get_or, Option, refl, sym, ap, ◌∙◌, subst, append_assoc, arith}
-use Rattle.std.specs.Prelude.{◌^◌, IsTrue, All, AllPairs, Err, codes}
+use Rattle.std.proofs.Common.{◌≡◌, ℕ, ◌<◌, ◌≤◌, inl, inr, List, [], ◌∷◌, ◌++◌, length, map, get_or, Option, Some, refl, sym, ap, ◌∙◌, subst, append_assoc, arith}
+use Rattle.std.specs.Prelude.{◌^◌, All, AllPairs, Err, codes}
 use Rattle.std.specs.List.{concat}
 use Rattle.std.specs.Fmt.{decimal}
 use Rattle.std.proofs.lemmas.List.Sums.{sum_by-le}
@@ -15,23 +15,22 @@ use Rattle.cable_definitions.specs.Walk.{load}
 use Rattle.cable_definitions.specs.declared.cable.Rule.TheVariants.{Range}
 use Rattle.cable_definitions.specs.Layout.{IsLegal, cost}
 use Rattle.cable_definitions.specs.Part.{IsGrown}
-use Rattle.cable_definitions.specs.Budget.{IsNearest}
-use Rattle.cable_definitions.specs.Tree.{Node, Item, ProofState, is_open_leaf, IsLeastBound, IsAccepted, LayoutAgrees, empty_state}
+use Rattle.cable_definitions.specs.Tree.{Item, ProofState, IsAccepted, LayoutAgrees, empty_state}
 use Rattle.cable_definitions.specs.Text.{line, site_lines, item_lines, cable_line, claim_line, document_text}
 use Rattle.cable_definitions.specs.Document.{IsClaimInRange}
 use Rattle.cable_text.specs.Stream.{Appends, AppendsPrefix}
 use Rattle.cable_text.proofs.Writing.{Appends-then, AppendsPrefix-front, AppendsPrefix-then}
 use Rattle.layout_meaning.proofs.Costing.{cost_small, load_small_at}
 use Rattle.document_laws.proofs.Counting.{cables-most}
-use Rattle.proof_laws.proofs.Lists.{any_at}
 use Rattle.proof_laws.proofs.FullLemma.{within-turbine}
 use Rattle.proof_laws.proofs.Sound.{sound-accepted, says-sound}
 use Rattle.proof_lines.specs.Written.{EndsAtPoints, NamesPoint, layout_lines}
-use Rattle.tree_search.specs.Found.{IsOutcome, FindsPlan, WritesPart}
-use Rattle.tree_search.specs.declared.finding.SearchFault.{SearchFault}
-use Rattle.tree_search.specs.declared.finding.SearchFault.TheVariants.{Write as SearchWrite, Memory as SearchMemory}
+use Rattle.plan_search.specs.Found.{IsOutcome, FindsPlan, WritesPart, HasCost}
+use Rattle.plan_search.specs.declared.finding.SearchFault.{SearchFault}
+use Rattle.plan_search.specs.declared.finding.SearchFault.TheVariants.{Write as SearchWrite, Memory as SearchMemory}
 use Rattle.run_definitions.specs.Effect.{Effect, Faulted}
-use Rattle.run_definitions.specs.Plan.{IsAtLeastFirstCables, IsPlan, IsPlanBegun}
+use Rattle.run_definitions.specs.Plan.{IsPlan, IsPlanBegun}
+use Rattle.run_definitions.specs.Rounds.{IsOfLayout, ComeFromSearch}
 use Rattle.run_definitions.specs.Ends.{IsRead, PrintsPlan, PrintsPart}
 use Rattle.cable_run.specs.declared.fault.Fault.{Fault}
 use Rattle.cable_run.specs.Faults.{search_fault}
@@ -80,7 +79,7 @@ cables_agree s cables (Partial bound stuck) a = cables_of_grown s cables a.grown
 cables_agree s cables Infeasible a = no_cables s cables a
 
 -- the cables that were found have their ends among the points
-pub cables_found : (s : Site) (arcs : List Arc) (n : ℕ) (before after : Option (List ℕ)) (cables : List Cable) (claim : Claim) → FindsPlan s arcs n before after cables claim → All (EndsAtPoints s) cables
+pub cables_found : (s : Site) (arcs : List Arc) (n : ℕ) (before after : Option (List ℕ)) (cables : List Cable) (claim : Claim) → FindsPlan s arcs n 1 before after cables claim → All (EndsAtPoints s) cables
 cables_found s arcs n before after cables claim found = cables_agree s cables claim found.outcome.agrees.0
 
 claim_agrees : (s : Site) (cables : List Cable) (claim : Claim) → LayoutAgrees s cables claim → NamesPoint s claim
@@ -90,7 +89,7 @@ claim_agrees s cables (Partial bound stuck) a = within-turbine s stuck a.turbine
 claim_agrees s cables Infeasible a = tt
 
 -- a turbine that the claim names is a point
-pub claim_found : (s : Site) (arcs : List Arc) (n : ℕ) (before after : Option (List ℕ)) (cables : List Cable) (claim : Claim) → FindsPlan s arcs n before after cables claim → NamesPoint s claim
+pub claim_found : (s : Site) (arcs : List Arc) (n : ℕ) (before after : Option (List ℕ)) (cables : List Cable) (claim : Claim) → FindsPlan s arcs n 1 before after cables claim → NamesPoint s claim
 claim_found s arcs n before after cables claim found = claim_agrees s cables claim found.outcome.agrees.0
 
 -- ---- costs
@@ -134,43 +133,40 @@ items_part input out middle s n arcs read are first part =
     (AppendsPrefix-then out.before middle out.after (head_text s n) (concat (map item_lines part.items)) first part.written)
 
 -- ---- plans
--- the least bound that was found is at least the sum of the least costs out of the turbines
-floor_reached : (s : Site) (arcs : List Arc) (n : ℕ) (before after : Option (List ℕ)) (cables : List Cable) (claim : Claim) (bound : ℕ) → (found : FindsPlan s arcs n before after cables claim)
-    → IsLeastBound found.kept bound → (nearest : ℕ) → IsNearest s nearest → nearest ≤ bound
-floor_reached s arcs n before after cables claim bound found least nearest total =
-    let leaf = any_at (λ (v : Node). IsTrue (is_open_leaf v.status) × (v.bound ≡ bound)) found.kept.nodes least.reached in
-    let low = found.floor nearest total (suc leaf.0) leaf.1 leaf.2 in
-    let same : leaf.1.bound ≡ bound = leaf.3.1 in
-    omega (arith, low, same)
-
-first_cables : (s : Site) (arcs : List Arc) (n : ℕ) (before after : Option (List ℕ)) (cables : List Cable) (claim : Claim) → FindsPlan s arcs n before after cables claim → IsAtLeastFirstCables s claim
-first_cables s arcs n before after cables (Optimal best) found = floor_reached s arcs n before after cables (Optimal best) best found found.outcome.agrees.1
-first_cables s arcs n before after cables (Gap best bound) found = floor_reached s arcs n before after cables (Gap best bound) bound found found.outcome.agrees.1.0
-first_cables s arcs n before after cables (Partial bound stuck) found = floor_reached s arcs n before after cables (Partial bound stuck) bound found found.outcome.agrees.1.0
-first_cables s arcs n before after cables Infeasible found = tt
+-- what was found comes from a search
+comes : (s : Site) (arcs : List Arc) (n : ℕ) (before after : Option (List ℕ)) (cables : List Cable) (claim : Claim) → (found : FindsPlan s arcs n 1 before after cables claim)
+    → ComeFromSearch s arcs n 1 found.core.items cables claim
+comes s arcs n before after cables claim found = record { core = found.core; searched = found.searched; items_are = refl; known = λ has. known claim found.known has }
+  where
+    known : (c : Claim) → ((total : ℕ) → HasCost c total → found.core.known ≡ Some cables) → IsOfLayout c → found.core.known ≡ Some cables
+    known (Optimal best) k has = k best refl
+    known (Gap best bound) k has = k best refl
+    known (Partial bound stuck) k has = absurd has
+    known Infeasible k has = absurd has
 
 -- what was found is a plan
 plan_found : (input : Effect) (middle later : Option (List ℕ)) (s : Site) (n : ℕ) (arcs : List Arc) (cables : List Cable) (claim : Claim) → 1 ≤ n → n ≤ 50000 → IsRead input s → AreArcs s arcs
-    → (found : FindsPlan s arcs n middle later cables claim) → IsPlan s n (document_text s n found.items cables claim) claim
+    → (found : FindsPlan s arcs n 1 middle later cables claim) → IsPlan s n (document_text s n found.core.items cables claim) claim
 plan_found input middle later s n arcs cables claim least most read are found = record {
   document = record {
     arcs = arcs;
     budget = n;
-    items = found.items;
+    items = found.core.items;
     cables = cables;
-    kept = found.kept;
+    kept = found.core.kept;
     valid = read.valid;
     are_arcs = are;
     is_budget = (least, most);
     text = refl;
     in_order = found.outcome.in_order;
     accepted = found.accepted;
-    in_range = claim_in_range s arcs n found.kept cables claim read.valid found.outcome;
+    in_range = claim_in_range s arcs n found.core.kept cables claim read.valid found.outcome;
     agrees = found.outcome.agrees;
   };
   budget_is = refl;
-  says = says-sound s arcs n found.kept cables claim (sound-accepted s arcs n found.items found.kept read.valid are found.accepted) found.outcome.agrees;
-  first_cables = first_cables s arcs n middle later cables claim found;
+  says = says-sound s arcs n found.core.kept cables claim (sound-accepted s arcs n found.core.items found.core.kept read.valid are found.accepted) found.outcome.agrees;
+  searched = comes s arcs n middle later cables claim found;
+  first_cables = found.floor;
   closed = found.outcome.closed;
   isolated = found.outcome.hopeless;
   settled = found.outcome.settled;
@@ -180,25 +176,25 @@ plan_found input middle later s n arcs cables claim least most read are found = 
 
 -- what stands before the items and these, and a first part of what stands behind them
 pub tail_part : (input out : Effect) (middle later : Option (List ℕ)) (s : Site) (n : ℕ) (arcs : List Arc) (cables : List Cable) (claim : Claim) → 1 ≤ n → n ≤ 50000 → IsRead input s → AreArcs s arcs
-    → Appends out.before middle (head_text s n) → FindsPlan s arcs n middle later cables claim → AppendsPrefix later out.after (tail_text s cables claim) → PrintsPart n input out
+    → Appends out.before middle (head_text s n) → FindsPlan s arcs n 1 middle later cables claim → AppendsPrefix later out.after (tail_text s cables claim) → PrintsPart n input out
 tail_part input out middle later s n arcs cables claim least most read are first found part =
-    let parts = AppendsPrefix-then out.before later out.after (head_text s n ++ concat (map item_lines found.items)) (tail_text s cables claim)
-    (Appends-then out.before middle later (head_text s n) (concat (map item_lines found.items)) first found.written) part in
-    let whole = subst (λ (text : List ℕ). AppendsPrefix out.before out.after text) (sym (document_parts s n found.items cables claim)) parts in
-    inr (s, document_text s n found.items cables claim, read, inr (claim, plan_found input middle later s n arcs cables claim least most read are found), whole)
+    let parts = AppendsPrefix-then out.before later out.after (head_text s n ++ concat (map item_lines found.core.items)) (tail_text s cables claim)
+    (Appends-then out.before middle later (head_text s n) (concat (map item_lines found.core.items)) first found.written) part in
+    let whole = subst (λ (text : List ℕ). AppendsPrefix out.before out.after text) (sym (document_parts s n found.core.items cables claim)) parts in
+    inr (s, document_text s n found.core.items cables claim, read, inr (claim, plan_found input middle later s n arcs cables claim least most read are found), whole)
 
 -- the whole text
 pub printed_whole : (input out : Effect) (middle later : Option (List ℕ)) (s : Site) (n : ℕ) (arcs : List Arc) (cables : List Cable) (claim : Claim) → 1 ≤ n → n ≤ 50000 → IsRead input s → AreArcs s arcs
-    → Appends out.before middle (head_text s n) → FindsPlan s arcs n middle later cables claim → Appends later out.after (tail_text s cables claim) → PrintsPlan n input out claim
+    → Appends out.before middle (head_text s n) → FindsPlan s arcs n 1 middle later cables claim → Appends later out.after (tail_text s cables claim) → PrintsPlan n input out claim
 printed_whole input out middle later s n arcs cables claim least most read are first found last =
-    let all = Appends-then out.before later out.after (head_text s n ++ concat (map item_lines found.items)) (tail_text s cables claim)
-    (Appends-then out.before middle later (head_text s n) (concat (map item_lines found.items)) first found.written) last in
+    let all = Appends-then out.before later out.after (head_text s n ++ concat (map item_lines found.core.items)) (tail_text s cables claim)
+    (Appends-then out.before middle later (head_text s n) (concat (map item_lines found.core.items)) first found.written) last in
     record {
       site = s;
-      printed = document_text s n found.items cables claim;
+      printed = document_text s n found.core.items cables claim;
       read = read;
       plan = plan_found input middle later s n arcs cables claim least most read are found;
-      wrote = subst (λ (bytes : List ℕ). Appends out.before out.after bytes) (sym (document_parts s n found.items cables claim)) all;
+      wrote = subst (λ (bytes : List ℕ). Appends out.before out.after bytes) (sym (document_parts s n found.core.items cables claim)) all;
     }
 
 search_ends : (n : ℕ) (input out : Effect) (fault : SearchFault) → (fault ≡ SearchWrite → Faulted out) → PrintsPart n input out → PlanGives n input out (Err (search_fault fault))

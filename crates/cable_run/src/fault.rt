@@ -6,11 +6,11 @@ ghost use Rattle.cable_run.specs.Faults.{fault_in_document};
 use cable_definitions::claim::{Cause, Refusal};
 use cable_text::Failed;
 use document_check::DocumentFault;
+use plan_search::SearchFault;
 use proof_text::ItemFault;
 use site_model::{SiteCode, SiteFault};
 use std::alloc::AllocError;
 use thiserror::Error;
-use tree_search::SearchFault;
 
 /// Why a command didn't do its work.
 #[derive(Clone, Copy, Debug, PartialEq, Eq, Error)]

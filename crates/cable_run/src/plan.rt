@@ -14,12 +14,12 @@ use crate::whole::read_site;
 use cable_definitions::claim::Claim;
 use cable_text::{Failed, Sink, Source};
 use candidate_cables::Arcs;
+use plan_search::{Plan, search};
 use proof_lines::{write_budget, write_claim, write_layout};
 use run_definitions::ending::Ending;
 use site_model::Site;
 use site_text::write_site;
 use std::alloc::Global;
-use tree_search::{Plan, search};
 
 /// Reads a site to the end of the input, and prints the document of its plan.
 pub(crate) fn plan<S: Source, O: Sink>(
@@ -35,7 +35,7 @@ pub(crate) fn plan<S: Source, O: Sink>(
     let site = read_site(alloc, input)?;
     let arcs = Arcs::new(alloc, &site)?;
     write_head(&site, budget, out)?;
-    let plan = search(alloc, &site, &arcs, budget, out)?;
+    let plan = search(alloc, &site, &arcs, budget, 1, out)?;
     write_tail(&site, &plan, out)?;
     Ok(ending_of(plan.claim))
 }

@@ -10,5 +10,7 @@ pub mod Json
 pub mod Bytes
 -- what a printed plan is
 pub mod Plan
+-- the search of a plan, as a run of the search's core
+pub mod Rounds
 -- how each command may end
 pub mod Ends

@@ -14,6 +14,7 @@ use Rattle.cable_definitions.specs.Budget.{IsNearest, enough_budget}
 use Rattle.cable_definitions.specs.Tree.{WasFull, Node, Item, ProofState, node_of, IsAccepted, Says}
 use Rattle.cable_definitions.specs.Text.{line, site_lines, item_lines}
 use Rattle.cable_definitions.specs.Document.{IsAcceptedDocument}
+use Rattle.run_definitions.specs.Rounds.{ComeFromSearch}
 
 -- ---- claims
 -- the claim says that a layout is the cheapest, or that there is none
@@ -52,6 +53,7 @@ IsAtLeastFirstCables s Infeasible = Unit {0}
 -- What is so of the plan of the site s with the budget n that was printed with this claim:
 --   document             it is a document of that site that `check` accepts, so its layout is legal at its cost;
 --   budget_is            its budget is n;
+--   searched             its items, and its layout where it has a cost, are those with which a search in rounds of one lane ends;
 --   says                 what the claim says of all legal layouts is true;
 --   first_cables         its bound is at least the sum of the turbines' cheapest first cables;
 --   closed               where n is enough, the claim is that its layout is the cheapest, or that there is none;
@@ -62,6 +64,7 @@ IsAtLeastFirstCables s Infeasible = Unit {0}
 pub record IsPlan (s : Site) (n : ℕ) (printed : List ℕ) (claim : Claim) : Type 0 where
   pub document : IsAcceptedDocument printed s claim
   pub budget_is : document.budget ≡ n
+  pub searched : ComeFromSearch s document.arcs n 1 document.items document.cables claim
   pub says : Says s claim
   pub first_cables : IsAtLeastFirstCables s claim
   pub closed : enough_budget document.arcs ≤ n → IsFinal claim

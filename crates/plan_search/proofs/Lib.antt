@@ -1,0 +1,15 @@
+pub mod InOrder
+pub mod Keeping
+pub mod Ordered
+pub mod Rounding
+pub mod Starting
+pub mod Choosing
+pub mod Outcomes
+pub mod Emptying
+pub mod Writing
+pub mod Stepping
+pub mod Advancing
+pub mod Looping
+pub mod Closing
+pub mod Assembling
+pub mod Flooring

@@ -1,0 +1,21 @@
+use Rattle.std.proofs.Common.{ℕ, ◌-◌, List, Ok}
+use Rattle.cable_definitions.specs.Tree.{Item}
+use Rattle.search_core.specs.State.{IsRunning, KeepsParts, core}
+use Rattle.plan_search.specs.Ended.{IsFloored}
+use Rattle.plan_search.specs.Rounds.{AreRounds, IsIdle}
+use Rattle.plan_search.specs.Steps.{Advances}
+use Rattle.plan_search.proofs.rounds.work_all.Given as goal
+
+abbrev pub invariant-loop-alloc : goal.invariant-loop-alloc
+invariant-loop-alloc g l = record {
+  running : IsRunning g.F.Fn g.G.Fn l.search;
+  parts : KeepsParts l.initial.search l.search;
+  idle : (items : List Item) × IsIdle l.initial.search.site l.initial.search.arcs l.initial.search.progress.budget l.lanes (core items l.search);
+  floored : IsFloored l.initial.search.site l.initial.search.progress.tree.nodes → IsFloored l.initial.search.site l.search.progress.tree.nodes;
+  advances : (items : List Item) → Advances {A = Unit {0}} (Ok tt) l.initial.search.site l.initial.search.arcs l.initial.search.progress.budget (core items l.initial.search)
+      (λ after. (rounds : ℕ) × AreRounds l.initial.search.site l.initial.search.arcs l.initial.search.progress.budget l.lanes rounds (core items l.initial.search) after) (λ more. core more l.search)
+      (g.O.Sink.taken l.initial.out) (g.O.Sink.taken l.out) (g.O.Sink.faults l.initial.out) (g.O.Sink.faults l.out);
+}
+
+abbrev pub decreases-loop-alloc : goal.decreases-loop-alloc
+decreases-loop-alloc g l = l.search.progress.budget - l.search.progress.tree.works

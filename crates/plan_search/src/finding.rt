@@ -1,0 +1,146 @@
+//! What a search finds.
+
+ghost use Rattle.std.specs.Prelude.{◌≡◌, ◌≤◌, Err, IfOk, OnErr, IfSome};
+ghost use Rattle.cable_definitions.specs.Arcs.{AreArcs};
+ghost use Rattle.cable_definitions.specs.Core.{first_core};
+ghost use Rattle.cable_text.specs.Stream.{Rose};
+ghost use Rattle.search_core.specs.State.{IsRunning, core};
+ghost use Rattle.stored_makers.specs.Makers.{AreShares, IsSoundRow, row_made};
+ghost use Rattle.stored_makers.specs.Choosers.{AreBeside, IsFreeChoice};
+ghost use Rattle.plan_search.specs.Found.{FindsPlan, WritesPart};
+
+use crate::branching::most_open;
+use crate::concluding::{begin, conclude};
+use crate::rounds::{work_all, write_rows};
+use crate::start::first_best;
+use bound_shares::Shares;
+use bound_value::Decisions;
+use cable_definitions::claim::Claim;
+use cable_rows::Row;
+use cable_text::{Failed, Sink};
+use candidate_cables::Arcs;
+use cut_makers::connect_row;
+use layout_meaning::Layout;
+use search_core::Search;
+use site_model::Site;
+use std::alloc::{AllocError, Global};
+use stored_makers::{Chooser, CutMaker};
+use thiserror::Error;
+
+/// Cables in ascending order of start, and what is claimed of them: a settled layout with a cost that is optimal, or that lies above
+/// a bound by a gap; a grown part with a turbine that can't be joined to it, and a bound; or no cable, where the site has no legal layout.
+#[derive(Drop)]
+pub struct Plan {
+    pub layout: Layout,
+    pub claim: Claim,
+}
+
+/// Why a search wasn't ended.
+#[derive(Clone, Copy, Debug, PartialEq, Eq, Error)]
+pub enum SearchFault {
+    #[error("the items could not be written")]
+    Write,
+    #[error("out of memory")]
+    Memory,
+}
+
+impl From<AllocError> for SearchFault {
+    ghost use Rattle.plan_search.specs.declared.finding.SearchFault.TheVariants.{Memory};
+
+    ghost from_gives = { λ _ fault. fault ≡ Memory };
+
+    fn from(_error: AllocError) -> SearchFault {
+        SearchFault::Memory
+    }
+}
+
+impl From<Failed> for SearchFault {
+    ghost use Rattle.plan_search.specs.declared.finding.SearchFault.TheVariants.{Write};
+
+    ghost from_gives = { λ _ fault. fault ≡ Write };
+
+    fn from(_error: Failed) -> SearchFault {
+        SearchFault::Write
+    }
+}
+
+/// Has a search that has listed the first rows and done nothing else find a plan, over its lanes.
+///
+/// # Errors
+///
+/// `Write` only where the count of `out` rose or stands at its last value, `Memory` where there is none;
+/// a first part of the items' lines was appended then.
+fn search_with<
+    O: Sink,
+    F: Fn(&Site, &Arcs, &Shares) -> Result<Option<Row>, AllocError>,
+    G: Fn(&Arcs, &Decisions, &Shares) -> Option<u32>,
+>(
+    alloc: Global,
+    site: &Site,
+    arcs: &Arcs,
+    search: &mut Search<'_, F, G>,
+    lanes: u32,
+    out: &mut O,
+) -> Result<Plan, SearchFault>
+    requires arcs { AreArcs site.now arcs.now }
+    requires running { IsRunning F.Fn G.Fn search.old }
+    requires site { search.old.site ≡ site.now }
+    requires arcs_of_site { search.old.arcs ≡ arcs.now }
+    requires first { core (first_core site.now lanes).items search.old ≡ first_core site.now lanes }
+    requires some { 1 ≤ search.old.progress.budget }
+    requires some_lanes { 1 ≤ lanes }
+    ensures plan { IfOk result (λ plan. FindsPlan site.now arcs.now search.old.progress.budget lanes (O.taken out.old) (O.taken out.new) plan.layout plan.claim) }
+    ensures part { OnErr result (WritesPart site.now arcs.now search.old.progress.budget (O.taken out.old) (O.taken out.new)) }
+    ensures failed { result ≡ Err SearchFault.Write → Rose (O.faults out.old) (O.faults out.new) }
+    ensures count { O.faults out.old ≤ O.faults out.new }
+{
+    write_rows(search.pool(), 0, out)?;
+    let start = first_best(alloc, site, arcs)?;
+    begin(alloc, search, &start)?;
+    work_all(alloc, search, lanes, out)?;
+    Ok(conclude(alloc, site, arcs, search, start)?)
+}
+
+/// Searches for the cheapest legal layout of a site by branch and bound over its candidate arcs, with so many lanes, and works at most as many nodes as
+/// the budget has. It begins with a settled layout, where the greedy growth or the straight layout gives a legal one. Then come rounds: each lane takes
+/// an open node of least bound, and then each works the node that it holds.
+///
+/// Appends each row and each work to `out` when it is made: first the rows on the cables of single points, then what each work lists, and the work.
+///
+/// It ends where no node is open that may hold a cheaper layout, with the cheapest layout or the claim that there is none; or where the budget is spent,
+/// with the cheapest layout so far, settled, and the least bound, or with the grown part where no layout was found.
+///
+/// # Errors
+///
+/// `Write` only where the count of `out` rose or stands at its last value, `Memory` where there is none;
+/// a first part of the items' lines was appended then.
+pub fn search<O: Sink>(
+    alloc: Global,
+    site: &Site,
+    arcs: &Arcs,
+    budget: u32,
+    lanes: u32,
+    out: &mut O,
+) -> Result<Plan, SearchFault>
+    requires arcs { AreArcs site.now arcs.now }
+    requires some { 1 ≤ budget }
+    requires most { budget ≤ 50000 }
+    requires some_lanes { 1 ≤ lanes }
+    requires most_lanes { lanes ≤ 16 }
+    ensures plan { IfOk result (λ plan. FindsPlan site.now arcs.now budget lanes (O.taken out.old) (O.taken out.new) plan.layout plan.claim) }
+    ensures part { OnErr result (WritesPart site.now arcs.now budget (O.taken out.old) (O.taken out.new)) }
+    ensures failed { result ≡ Err SearchFault.Write → Rose (O.faults out.old) (O.faults out.new) }
+    ensures count { O.faults out.old ≤ O.faults out.new }
+{
+    let make = move |site: &Site, arcs: &Arcs, shares: &Shares|
+        requires { AreShares site.now arcs.now shares.now }
+        ensures { IfOk result (λ answer. IfSome answer (λ row. IsSoundRow site.now arcs.now (row_made row))) }
+    { connect_row(alloc, site, arcs, shares) };
+    let name = |arcs: &Arcs, decisions: &Decisions, shares: &Shares|
+        requires { AreBeside arcs.now decisions.now shares.now }
+        ensures { IsFreeChoice decisions.now result }
+    { most_open(arcs, decisions, shares) };
+    let maker = CutMaker::new(site, make);
+    let mut search = Search::new(alloc, site, arcs, budget, lanes, maker, Chooser::new(name))?;
+    search_with(alloc, site, arcs, &mut search, lanes, out)
+}

@@ -1,0 +1,92 @@
+//! The layout that a search begins with, and how a layout is settled.
+
+ghost use Rattle.std.specs.Prelude.{◌≡◌, IfOk};
+ghost use Rattle.cable_definitions.specs.Arcs.{AreArcs};
+ghost use Rattle.cable_definitions.specs.Layout.{IsLegal};
+ghost use Rattle.plan_search.specs.Start.{AreInOrder, IsKnown, IsIncumbent, IsSettledBest, BeatsStraight};
+
+use candidate_cables::Arcs;
+use layout_meaning::{Layout, Verdict, judge};
+use site_model::Site;
+use start_layout::{Start, greedy, improve_layout};
+use std::alloc::{AllocError, Global};
+
+/// The layout to begin with and its cost; where no cost is known, a grown part and a turbine that can't be joined to it.
+#[derive(Drop)]
+pub(crate) struct Best {
+    pub(crate) layout: Layout,
+    pub(crate) known: Option<u64>,
+    pub(crate) stuck: u32,
+}
+
+/// A layout and its cost.
+#[derive(Drop)]
+pub(crate) struct Settled {
+    pub(crate) layout: Layout,
+    pub(crate) cost: u64,
+}
+
+/// The layout to begin with, settled and in ascending order of start, with its cost; or the part that was grown, where no layout was found.
+///
+/// # Errors
+///
+/// `AllocError` where there is no memory.
+pub(crate) fn first_best(alloc: Global, site: &Site, arcs: &Arcs) -> Result<Best, AllocError>
+    requires { AreArcs site.now arcs.now }
+    ensures known { IfOk result (λ best. IsKnown site.now best.layout best.stuck best.known) }
+    ensures straight { IfOk result (λ best. BeatsStraight site.now best.known) }
+{
+    match greedy(alloc, site, arcs)? {
+        Start::Stuck { part, turbine } => {
+            let mut layout = part;
+            layout.arrange();
+            Ok(Best {
+                layout,
+                known: None,
+                stuck: turbine,
+            })
+        }
+        Start::Found(layout, _) => {
+            let settled = settle_layout(alloc, site, arcs, &layout)?;
+            Ok(Best {
+                layout: settled.layout,
+                known: Some(settled.cost),
+                stuck: 0,
+            })
+        }
+    }
+}
+
+/// A settled layout in ascending order of start that costs no more than this one, with its cost. It is this one where that is settled and in that order.
+///
+/// # Errors
+///
+/// `AllocError` where there is no memory.
+pub(crate) fn settle_layout(
+    alloc: Global,
+    site: &Site,
+    arcs: &Arcs,
+    layout: &Layout,
+) -> Result<Settled, AllocError>
+    requires arcs { AreArcs site.now arcs.now }
+    requires legal { IsLegal site.now layout.now }
+    ensures { IfOk result (λ settled. IsSettledBest site.now layout.now settled.layout settled.cost) }
+{
+    let mut better = improve_layout(alloc, site, arcs, layout)?;
+    better.arrange();
+    Ok(with_cost(site, better))
+}
+
+/// A legal layout, in ascending order of start, with its cost.
+fn with_cost(site: &Site, layout: Layout) -> Settled
+    requires legal { IsLegal site.now layout }
+    requires in_order { AreInOrder layout }
+    ensures same { result.layout ≡ layout }
+    ensures best { IsIncumbent site.now layout result.cost }
+{
+    match judge(site, &layout) {
+        Verdict::Legal(cost) => Settled { layout, cost },
+        // A legal layout breaks no rule.
+        Verdict::Broken(..) => unreachable!(),
+    }
+}

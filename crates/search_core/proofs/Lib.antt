@@ -1,0 +1,18 @@
+pub mod RowsListed
+pub mod OpenFirst
+pub mod HeldLanes
+pub mod OpenList
+pub mod Acting
+pub mod OpenStart
+-- rows that are listed while a node is worked
+pub mod Listing
+-- what works and steps leave
+pub mod Stepping
+-- the work on node 1 leaves it dead, or with a bound of at least the least costs out of the turbines
+pub mod SteppingFloor
+-- what is seen of a search by its parts
+pub mod Seeing
+-- how often a maker is called while weights are raised
+pub mod RaisedCalls
+-- what is chosen on a node by raised weights
+pub mod RaisedChoice

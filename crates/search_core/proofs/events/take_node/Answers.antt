@@ -1,0 +1,13 @@
+use Rattle.std.proofs.Common.{[]}
+use Rattle.search_core.proofs.Stepping.{did-nothing, did-take, takes-pool}
+use Rattle.cable_definitions.specs.Core.{Take}
+use Rattle.search_core.proofs.events.take_node.Goals as goal
+
+pub returns-in_default-clause-did : goal.returns-in_default-clause-did
+returns-in_default-clause-did c = λ s arcs n h. did-nothing s arcs n c.args.progress.now _ (Take c.args.lane) (λ items. c.in_default.ensures.not_possible s arcs n items h) c.in_default.ensures.same
+
+pub returns-clause-did : goal.returns-clause-did
+returns-clause-did c = λ s arcs n h. did-take s arcs n c.args.progress.now c.take.new.self c.args.lane c.in-Some.node (λ items. c.in-Some.ensures.takes s arcs n items h) c.in-Some.ensures.node
+
+pub returns-clause-lists : goal.returns-clause-lists
+returns-clause-lists c = λ s arcs n h. takes-pool s arcs n [] c.args.lane c.args.progress.now c.take.new.self (c.in-Some.ensures.takes s arcs n [] h)

@@ -1,0 +1,2 @@
+-- what holds of every state that a search reaches
+pub mod Cores
