@@ -19,6 +19,3 @@ pub use lawfulness::lawful;
 pub use value::{rounded_bound, weigh};
 pub use weights::{Weights, WeightsFull};
 pub use work::Work;
-
-#[cfg(test)]
-mod tests;

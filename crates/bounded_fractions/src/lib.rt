@@ -17,6 +17,3 @@ pub fn value_laws()
     ensures in_range { (f : Fraction) → IsInRange (value_of f) }
     ensures same { (f g : Fraction) → value_of f ≡ value_of g → f ≡ g }
 {}
-
-#[cfg(test)]
-mod tests;

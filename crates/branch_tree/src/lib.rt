@@ -8,6 +8,3 @@ pub use bound_value::Work;
 pub use cable_definitions::claim::{Cause, Claim, Refusal};
 pub use cable_definitions::row::{Act, Why};
 pub use tree::{Tree, TreeFault};
-
-#[cfg(test)]
-mod tests;

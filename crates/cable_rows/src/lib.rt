@@ -11,6 +11,3 @@ pub use cable_definitions::row::{RowFault, RowKind};
 pub use form::row_form;
 pub use pool::{Full, RowPool};
 pub use row::{Members, Row};
-
-#[cfg(test)]
-mod tests;

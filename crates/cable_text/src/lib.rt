@@ -19,6 +19,3 @@ pub use number::{NumberFault, push_number, read_number};
 pub use standard::{StdSink, StdSource};
 pub use stream::{Failed, Sink, Source};
 pub use words::{cut, is_word};
-
-#[cfg(test)]
-mod tests;

@@ -134,6 +134,3 @@ impl Arcs {
         are_incompatible(site, self.get(a), self.get(b))
     }
 }
-
-#[cfg(test)]
-mod tests;

@@ -81,6 +81,3 @@ impl<'a> Crossings<'a> {
         Ok(ArcList { numbers })
     }
 }
-
-#[cfg(test)]
-mod tests;

@@ -4,6 +4,3 @@
 mod document;
 
 pub use document::{Accepted, DocumentFault, read_document};
-
-#[cfg(test)]
-mod tests;

@@ -12,6 +12,3 @@ mod value;
 
 pub use bound_shares::Shares;
 pub use improvement::{Improved, better_of, improve};
-
-#[cfg(test)]
-mod tests;

@@ -103,32 +103,3 @@ impl Layout {
             .sort_unstable_by_key(|cable| (cable.from, cable.to, cable.grade));
     }
 }
-
-#[cfg(test)]
-mod tests {
-    use super::*;
-
-    #[test]
-    fn takes_256_cables(rt: HostRuntime) -> Result<(), AllocError> {
-        let mut layout = Layout::new(rt.alloc())?;
-        for from in 0..256u32 {
-            let cable = Cable {
-                from: 255 - from,
-                to: 256,
-                grade: 0,
-            };
-            assert_eq!(rt; layout.push(cable), Ok(()));
-        }
-        let further = Cable {
-            from: 0,
-            to: 1,
-            grade: 0,
-        };
-        assert_eq!(rt; layout.push(further), Err(LayoutFull));
-        layout.arrange();
-        for (from, cable) in layout.cables().iter().enumerate() {
-            assert_eq!(rt; cable.from as usize, from);
-        }
-        Ok(())
-    }
-}

@@ -12,6 +12,3 @@ mod used;
 pub use cable_definitions::row::Why;
 pub use dead::{find_dead, is_dead};
 pub use full::{full_layout, is_full};
-
-#[cfg(test)]
-mod tests;

@@ -2,9 +2,6 @@
 //! takes exponential time, and is meant for sites of few points, with which other planners are compared.
 #![tactic(auto)]
 
-#[cfg(test)]
-mod tests;
-
 ghost use Rattle.std.specs.Prelude.{◌≡◌, ◌≢◌, ◌+◌, ◌<◌, ◌≤◌, ◌↔◌, IsTrue, length, vec_len, All, AllPairs, IfOk, OnOk, IfSome, IfNone};
 ghost use Rattle.cable_definitions.specs.Layout.{IsLegal, cost, Least, HasNone};
 ghost use Rattle.plain_planner.specs.Choices.{Ascends, Completes, IsBestTried, IsJudgement, cheaper as cheaper_of};

@@ -6,6 +6,3 @@ mod sums;
 mod write;
 
 pub use write::report;
-
-#[cfg(test)]
-mod tests;

@@ -10,6 +10,3 @@ mod works;
 pub use cable_definitions::claim::{Cause, Claim, Refusal};
 pub use checker::Checker;
 pub use claims::Bound;
-
-#[cfg(test)]
-mod tests;

@@ -4,6 +4,3 @@
 mod write;
 
 pub use write::{write_budget, write_claim, write_layout, write_row, write_work};
-
-#[cfg(test)]
-mod tests;

@@ -11,6 +11,3 @@ pub use cables::read_layout;
 pub use fault::ItemFault;
 pub use items::{ItemReader, Next};
 pub use reading::{read_claim, read_close, read_count, read_end};
-
-#[cfg(test)]
-mod tests;

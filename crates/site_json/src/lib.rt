@@ -13,8 +13,6 @@ mod items;
 pub mod laws;
 mod lists;
 mod members;
-#[cfg(test)]
-mod tests;
 mod top;
 
 use crate::lists::{add_lists, fault_at, refused};

@@ -14,6 +14,3 @@ pub use law::good_items_are_a_site;
 pub use line::{Field, push_line};
 pub use read::read_site;
 pub use write::{name_of, write_site};
-
-#[cfg(test)]
-mod tests;

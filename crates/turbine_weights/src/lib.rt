@@ -7,6 +7,3 @@ mod turbines;
 
 pub use laws::all_free_weights_reach_the_nearest;
 pub use turbines::weigh_turbines;
-
-#[cfg(test)]
-mod tests;

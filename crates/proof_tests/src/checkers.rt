@@ -1,0 +1,263 @@
+ghost use Rattle.std.specs.Prelude.{◌≤◌};
+
+use bound_value::{Weights, Work};
+use branch_tree::{Act, Why};
+use cable_definitions::claim::Refusal;
+use cable_definitions::row::RowKind;
+use layout_meaning::{Cable, Layout};
+use proof_checker::{Bound, Cause, Checker, Claim};
+use site_model::{Mode, RawKind, Site, SiteBuilder, Version};
+use std::alloc::Global;
+use std::test::Fail;
+
+/// The cable from the turbine to the substation, which costs 50,000.
+const CABLE: Cable = Cable {
+    from: 1,
+    to: 0,
+    grade: 0,
+};
+
+/// The split on the one arc, a full node where it is used, and a dead one where it isn't.
+const WORKS: [(u32, Act); 3] = [
+    (1, Act::Split(0)),
+    (2, Act::Full),
+    (3, Act::Dead(Why::Row(0))),
+];
+
+/// A substation that takes so much power, and one turbine of power 100.
+fn one_turbine(alloc: Global, power: i128) -> Result<Site, Fail> {
+    let mut builder = SiteBuilder::new(alloc, Version::One, Mode::Tree)?;
+    builder.add_type(400, 100, None)?;
+    builder.add_point(b"S", 0, 0, RawKind::Substation(4, power))?;
+    builder.add_point(b"A", 300, 400, RawKind::Turbine(100))?;
+    Ok(builder.build()?)
+}
+
+/// What is answered to the claim of a document: a row `Out` of a point in line 1, a work in each line that follows, a layout, and the claim
+/// in the next line.
+fn check(
+    alloc: Global,
+    site: &Site,
+    budget: u32,
+    row: u32,
+    works: &[(u32, Act)],
+    cables: &[Cable],
+    claim: Claim,
+) -> Result<Result<Bound, Refusal>, Fail>
+    requires some_work { 1 ≤ budget }
+    requires most_works { budget ≤ 50000 }
+{
+    let mut layout = Layout::new(alloc)?;
+    for cable in cables {
+        layout.push(*cable)?;
+    }
+    let mut checker = Checker::begin(alloc, site, budget)?;
+    let _ = checker.feed_row(1, RowKind::Out, &[row]);
+    let mut line = 2u64;
+    for step in works {
+        let work = Work {
+            node: step.0,
+            weights: Weights::new(alloc)?,
+            act: step.1,
+        };
+        let _ = checker.feed_work(line, &work);
+        line = line.saturating_add(1);
+    }
+    Ok(checker.close(line, &layout, claim))
+}
+
+/// A refusal of a line.
+fn refused(line: u64, cause: Cause) -> Result<Bound, Refusal> {
+    Err(Refusal { line, cause })
+}
+
+#[test]
+fn claims_of_one_turbine(rt: HostRuntime) -> Result<(), Fail> {
+    let alloc = rt.alloc();
+    let site = one_turbine(alloc, 10000)?;
+    let answer = check(alloc, &site, 3, 1, &WORKS, &[CABLE], Claim::Optimal(50000))?;
+    assert_eq!(rt; answer, Ok(Bound::Least(50000)));
+    let answer = check(alloc, &site, 3, 1, &WORKS, &[CABLE], Claim::Optimal(50001))?;
+    assert_eq!(rt; answer, refused(5, Cause::Layout));
+    let answer = check(alloc, &site, 3, 1, &WORKS, &[CABLE], Claim::Infeasible)?;
+    assert_eq!(rt; answer, refused(5, Cause::Layout));
+    let answer = check(alloc, &site, 3, 1, &WORKS, &[], Claim::Infeasible)?;
+    assert_eq!(rt; answer, refused(5, Cause::Verdict));
+    let answer = check(
+        alloc,
+        &site,
+        3,
+        1,
+        &WORKS[..2],
+        &[CABLE],
+        Claim::Optimal(50000),
+    )?;
+    assert_eq!(rt; answer, refused(4, Cause::Verdict));
+    Ok(())
+}
+
+#[test]
+fn gaps_of_one_turbine(rt: HostRuntime) -> Result<(), Fail> {
+    let alloc = rt.alloc();
+    let site = one_turbine(alloc, 10000)?;
+    let stop = [(1, Act::Stop)];
+    let gap = |cost, bound| Claim::Gap { cost, bound };
+    let answer = check(alloc, &site, 1, 1, &stop, &[CABLE], gap(50000, 0))?;
+    assert_eq!(rt; answer, Ok(Bound::Least(0)));
+    let answer = check(alloc, &site, 2, 1, &stop, &[CABLE], gap(50000, 0))?;
+    assert_eq!(rt; answer, refused(3, Cause::Verdict));
+    let answer = check(alloc, &site, 1, 1, &stop, &[CABLE], gap(50000, 1))?;
+    assert_eq!(rt; answer, refused(3, Cause::Verdict));
+    let answer = check(alloc, &site, 3, 1, &WORKS, &[CABLE], gap(50000, 50000))?;
+    assert_eq!(rt; answer, refused(5, Cause::Verdict));
+    Ok(())
+}
+
+/// A substation that takes one cable, and three turbines, no two of which it can feed but through one another.
+fn one_feeder(alloc: Global) -> Result<Site, Fail> {
+    let mut builder = SiteBuilder::new(alloc, Version::One, Mode::Tree)?;
+    builder.add_type(200, 1, None)?;
+    builder.add_point(b"S", 0, 0, RawKind::Substation(1, 10000))?;
+    builder.add_point(b"A", 0, 1000, RawKind::Turbine(100))?;
+    builder.add_point(b"B", 1000, 0, RawKind::Turbine(100))?;
+    builder.add_point(b"C", 1000, 1000, RawKind::Turbine(100))?;
+    Ok(builder.build()?)
+}
+
+#[test]
+fn a_turbine_that_cannot_be_joined(rt: HostRuntime) -> Result<(), Fail> {
+    let alloc = rt.alloc();
+    let site = one_feeder(alloc)?;
+    let stop = [(1, Act::Stop)];
+    let cable = |from, to| Cable { from, to, grade: 0 };
+    let part = [cable(1, 0), cable(2, 1)];
+    for (budget, cables, bound, stuck, answer) in [
+        (1, &part[..], 0, 3, Ok(Bound::Least(0))),
+        (1, &part[..], 0, 2, refused(3, Cause::Layout)),
+        (1, &part[..], 0, 0, refused(3, Cause::Layout)),
+        (1, &part[..], 0, 4, refused(3, Cause::Layout)),
+        (1, &part[..1], 0, 3, refused(3, Cause::Layout)),
+        (1, &part[1..], 0, 3, refused(3, Cause::Layout)),
+        (1, &part[..], 1, 3, refused(3, Cause::Verdict)),
+        (2, &part[..], 0, 3, refused(3, Cause::Verdict)),
+    ] {
+        let claim = Claim::Partial { bound, stuck };
+        assert_eq!(rt;
+            check(alloc, &site, budget, 1, &stop, cables, claim)?,
+            answer
+        );
+    }
+    Ok(())
+}
+
+#[test]
+fn wrong_items_of_one_turbine(rt: HostRuntime) -> Result<(), Fail> {
+    let alloc = rt.alloc();
+    let site = one_turbine(alloc, 10000)?;
+    let claim = Claim::Optimal(50000);
+    let answer = check(alloc, &site, 3, 0, &WORKS, &[CABLE], claim)?;
+    assert_eq!(rt; answer, refused(1, Cause::Row));
+    let answer = check(alloc, &site, 2, 1, &WORKS, &[CABLE], claim)?;
+    assert_eq!(rt; answer, refused(4, Cause::Limit));
+    let answer = check(
+        alloc,
+        &site,
+        3,
+        1,
+        &[WORKS[0], (4, Act::Full)],
+        &[CABLE],
+        claim,
+    )?;
+    assert_eq!(rt; answer, refused(3, Cause::Node));
+    let answer = check(
+        alloc,
+        &site,
+        3,
+        1,
+        &[WORKS[0], WORKS[1], WORKS[1]],
+        &[CABLE],
+        claim,
+    )?;
+    assert_eq!(rt; answer, refused(4, Cause::Node));
+    let answer = check(alloc, &site, 3, 1, &[(1, Act::Split(1))], &[CABLE], claim)?;
+    assert_eq!(rt; answer, refused(2, Cause::Arc));
+    let answer = check(
+        alloc,
+        &site,
+        3,
+        1,
+        &[WORKS[0], (2, Act::Split(0))],
+        &[CABLE],
+        claim,
+    )?;
+    assert_eq!(rt; answer, refused(3, Cause::Arc));
+    let dead = Act::Dead(Why::Row(0));
+    let answer = check(alloc, &site, 3, 1, &[WORKS[0], (2, dead)], &[CABLE], claim)?;
+    assert_eq!(rt; answer, refused(3, Cause::Dead));
+    let answer = check(
+        alloc,
+        &site,
+        3,
+        1,
+        &[WORKS[0], (3, Act::Full)],
+        &[CABLE],
+        claim,
+    )?;
+    assert_eq!(rt; answer, refused(3, Cause::Full));
+    Ok(())
+}
+
+#[test]
+fn a_site_without_a_layout(rt: HostRuntime) -> Result<(), Fail> {
+    let alloc = rt.alloc();
+    let site = one_turbine(alloc, 50)?;
+    let works = [WORKS[0], (2, Act::Dead(Why::Power(0))), WORKS[2]];
+    let answer = check(alloc, &site, 3, 1, &works, &[], Claim::Infeasible)?;
+    assert_eq!(rt; answer, Ok(Bound::NoLayout));
+    Ok(())
+}
+
+/// What is answered to the claim that 50,000 is optimal, where the one work is on node 1, with this weight on this row, and stops.
+fn weighed(
+    alloc: Global,
+    site: &Site,
+    row: u32,
+    weight: i128,
+) -> Result<Result<Bound, Refusal>, Fail> {
+    let mut weights = Weights::new(alloc)?;
+    weights.push(row, weight)?;
+    let mut layout = Layout::new(alloc)?;
+    layout.push(CABLE)?;
+    let mut checker = Checker::begin(alloc, site, 1)?;
+    let _ = checker.feed_row(1, RowKind::Out, &[1]);
+    let _ = checker.feed_row(2, RowKind::Inlet, &[0]);
+    let work = Work {
+        node: 1,
+        weights,
+        act: Act::Stop,
+    };
+    let _ = checker.feed_work(3, &work);
+    Ok(checker.close(4, &layout, Claim::Optimal(50000)))
+}
+
+#[test]
+fn weights_of_one_turbine(rt: HostRuntime) -> Result<(), Fail> {
+    let alloc = rt.alloc();
+    let site = one_turbine(alloc, 10000)?;
+    let unit = 1_048_576;
+    assert_eq!(rt;
+        weighed(alloc, &site, 0, 50000 * unit)?,
+        Ok(Bound::Least(50000))
+    );
+    assert_eq!(rt;
+        weighed(alloc, &site, 0, 49999 * unit)?,
+        refused(4, Cause::Verdict)
+    );
+    for (row, weight) in [(0, 0), (1, -unit), (2, unit), (0, (1 << 76) + 1)] {
+        assert_eq!(rt;
+            weighed(alloc, &site, row, weight)?,
+            refused(3, Cause::Weight)
+        );
+    }
+    Ok(())
+}

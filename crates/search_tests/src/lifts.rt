@@ -1,0 +1,91 @@
+ghost use Rattle.std.specs.Prelude.{All, IfOk, OnOk};
+ghost use Rattle.cable_definitions.specs.Arcs.{AreArcs};
+ghost use Rattle.cable_definitions.specs.Row.{IsWellFormed};
+
+use bound_value::{Decisions, Mark, Weights, lawful, weigh};
+use cable_definitions::row::RowKind;
+use cable_rows::{RowPool, row_form};
+use candidate_cables::Arcs;
+use row_lifts::{lift_all, slack};
+use site_model::{Mode, RawKind, Site, SiteBuilder, Version};
+use std::alloc::Global;
+use std::test::Fail;
+
+/// What a cost of one unit weighs.
+const UNIT: i128 = 1_048_576;
+
+/// A substation and three turbines. The arcs with their lengths are 0 A>S 1000, 1 A>B 500, 2 A>C 500, 3 B>S 1432, 4 B>A 500, 5 B>C 600, 6 C>S
+/// 1432, 7 C>A 500 and 8 C>B 600.
+fn fork_site(alloc: Global) -> Result<Site, Fail> {
+    let mut builder = SiteBuilder::new(alloc, Version::One, Mode::Tree)?;
+    builder.add_type(400, 1, None)?;
+    builder.add_point(b"S", 0, 0, RawKind::Substation(4, 10000))?;
+    builder.add_point(b"A", 0, 1000, RawKind::Turbine(100))?;
+    builder.add_point(b"B", -300, 1400, RawKind::Turbine(100))?;
+    builder.add_point(b"C", 300, 1400, RawKind::Turbine(100))?;
+    Ok(builder.build()?)
+}
+
+/// Lists a row that has to be well formed.
+fn list(
+    pool: &mut RowPool,
+    site: &Site,
+    arcs: &Arcs,
+    kind: RowKind,
+    members: &[u32],
+) -> Result<(), Fail>
+    requires { AreArcs site.now arcs.now }
+{
+    row_form(site, arcs, kind, members)?;
+    pool.add(site, arcs, kind, members)?;
+    Ok(())
+}
+
+/// The rows on the cables out of each turbine, and the row on those out of all three.
+fn rows(alloc: Global, site: &Site, arcs: &Arcs) -> Result<RowPool, Fail>
+    requires { AreArcs site.now arcs.now }
+{
+    let mut pool = RowPool::new(alloc)?;
+    list(&mut pool, site, arcs, RowKind::Out, [1].as_slice())?;
+    list(&mut pool, site, arcs, RowKind::Out, [2].as_slice())?;
+    list(&mut pool, site, arcs, RowKind::Out, [3].as_slice())?;
+    list(&mut pool, site, arcs, RowKind::Cut, [1, 2, 3].as_slice())?;
+    Ok(pool)
+}
+
+#[test]
+fn all_rows_are_lifted(rt: HostRuntime) -> Result<(), Fail> {
+    let site = fork_site(rt.alloc())?;
+    let arcs = Arcs::new(rt.alloc(), &site)?;
+    let pool = rows(rt.alloc(), &site, &arcs)?;
+    let decisions = Decisions::new(rt.alloc(), arcs.len())?;
+    let mut weights = Weights::new(rt.alloc())?;
+    assert!(&rt; lawful(&pool, &weights));
+    lift_all(rt.alloc(), &site, &arcs, &pool, &decisions, &mut weights)?;
+    assert!(&rt; weigh(&site, &arcs, &pool, &decisions, &weights) >= 1864 * UNIT);
+    Ok(())
+}
+
+#[test]
+fn a_row_is_raised_by_the_arcs_that_are_left(rt: HostRuntime) -> Result<(), Fail> {
+    let site = fork_site(rt.alloc())?;
+    let arcs = Arcs::new(rt.alloc(), &site)?;
+    let pool = rows(rt.alloc(), &site, &arcs)?;
+    let mut decisions = Decisions::new(rt.alloc(), arcs.len())?;
+    let mut weights = Weights::new(rt.alloc())?;
+    assert!(&rt; arcs.len() == 9);
+    assert!(&rt; pool.len() == 4);
+    weights.push(0, -UNIT)?;
+    assert!(&rt; lawful(&pool, &weights));
+    assert!(&rt; slack(&site, &arcs, &pool, &weights, 1) == 501 * UNIT);
+    decisions.set(1, Mark::Unused);
+    decisions.set(2, Mark::Unused);
+    decisions.set(3, Mark::Used);
+    lift_all(rt.alloc(), &site, &arcs, &pool, &decisions, &mut weights)?;
+    // A is left by arc 0 alone, the rows of B and of all three hold a used arc.
+    assert_eq!(rt;
+        weights.as_slice(),
+        [(0, 1000 * UNIT), (2, 500 * UNIT)].as_slice()
+    );
+    Ok(())
+}

@@ -1,0 +1,135 @@
+use layout_meaning::{Cable, JoinFault, Layout, LayoutFull, PartialLayout, Rule, part_blocked};
+use site_model::{Mode, RawKind, Site, SiteBuilder, Version};
+use std::alloc::{AllocError, Global};
+use std::test::Fail;
+
+/// A substation with one feeder, three turbines that stand with it on the corners of a square, and a fourth turbine behind the first. A cable
+/// bears the power of two turbines.
+fn square(alloc: Global) -> Result<Site, Fail> {
+    let mut builder = SiteBuilder::new(alloc, Version::One, Mode::Tree)?;
+    builder.add_type(200, 1, None)?;
+    builder.add_point(b"S", 0, 0, RawKind::Substation(1, 10000))?;
+    builder.add_point(b"A", 0, 1000, RawKind::Turbine(100))?;
+    builder.add_point(b"B", 1000, 0, RawKind::Turbine(100))?;
+    builder.add_point(b"C", 1000, 1000, RawKind::Turbine(100))?;
+    builder.add_point(b"D", 0, 2000, RawKind::Turbine(100))?;
+    Ok(builder.build()?)
+}
+
+#[test]
+fn joins_turbines_until_one_is_blocked(rt: HostRuntime) -> Result<(), Fail> {
+    let alloc = rt.alloc();
+    let site = square(alloc)?;
+    let mut part = PartialLayout::new(alloc, &site)?;
+    assert!(&rt; !part.blocked(3));
+    assert_eq!(rt; part.try_join(1, 0), Ok(()));
+    assert!(&rt; part.joined(1));
+    assert!(&rt; !part.joined(0));
+    assert!(&rt; !part.blocked(3));
+    assert_eq!(rt; part.try_join(2, 1), Ok(()));
+    assert!(&rt; part.blocked(3));
+    assert!(&rt; !part.blocked(2));
+    assert!(&rt; !part.blocked(0));
+    assert!(&rt; !part.blocked(5));
+    let cable = |from, to| Cable { from, to, grade: 0 };
+    let cables = [cable(1, 0), cable(2, 1)];
+    assert_eq!(rt; part.layout().cables(), cables.as_slice());
+    assert_eq!(rt; part.into_layout().cables(), cables.as_slice());
+    Ok(())
+}
+
+#[test]
+fn refuses_arcs(rt: HostRuntime) -> Result<(), Fail> {
+    let alloc = rt.alloc();
+    let site = square(alloc)?;
+    let mut part = PartialLayout::new(alloc, &site)?;
+    assert_eq!(rt; part.try_join(1, 0), Ok(()));
+    let refusals = [
+        (1, 0, JoinFault::Joined),
+        (0, 1, JoinFault::Joined),
+        (5, 9, JoinFault::Joined),
+        (2, 2, JoinFault::Target),
+        (2, 3, JoinFault::Target),
+        (2, 5, JoinFault::Target),
+        (4, 0, JoinFault::Candidate),
+        (2, 0, JoinFault::Breaks(Rule::Feeders, 0, 0)),
+    ];
+    for (from, to, fault) in refusals {
+        assert_eq!(rt; part.try_join(from, to), Err(fault));
+    }
+    assert_eq!(rt; part.try_join(2, 1), Ok(()));
+    assert_eq!(rt;
+        part.try_join(3, 0),
+        Err(JoinFault::Breaks(Rule::Feeders, 0, 0))
+    );
+    assert_eq!(rt;
+        part.try_join(3, 1),
+        Err(JoinFault::Breaks(Rule::Overload, 1, 0))
+    );
+    assert_eq!(rt;
+        part.try_join(3, 2),
+        Err(JoinFault::Breaks(Rule::Overload, 1, 0))
+    );
+    Ok(())
+}
+
+#[test]
+fn chooses_the_cheapest_types_anew(rt: HostRuntime) -> Result<(), Fail> {
+    let alloc = rt.alloc();
+    let mut builder = SiteBuilder::new(alloc, Version::One, Mode::Tree)?;
+    builder.add_type(200, 3, None)?;
+    builder.add_type(100, 2, None)?;
+    builder.add_point(b"S", 0, 0, RawKind::Substation(1, 10000))?;
+    builder.add_point(b"A", 0, 1000, RawKind::Turbine(100))?;
+    builder.add_point(b"B", 1000, 0, RawKind::Turbine(100))?;
+    let site = builder.build()?;
+    let mut part = PartialLayout::new(alloc, &site)?;
+    let cable = |from, to, grade| Cable { from, to, grade };
+    assert_eq!(rt; part.try_join(1, 0), Ok(()));
+    assert_eq!(rt; part.layout().cables(), [cable(1, 0, 1)].as_slice());
+    assert_eq!(rt; part.try_join(2, 1), Ok(()));
+    assert_eq!(rt;
+        part.layout().cables(),
+        [cable(1, 0, 0), cable(2, 1, 1)].as_slice()
+    );
+    Ok(())
+}
+
+#[test]
+fn only_grown_parts_block(rt: HostRuntime) -> Result<(), Fail> {
+    let alloc = rt.alloc();
+    let site = square(alloc)?;
+    let mut lost = Layout::new(alloc)?;
+    let from_b = Cable {
+        from: 2,
+        to: 1,
+        grade: 0,
+    };
+    assert_eq!(rt; lost.push(from_b), Ok(()));
+    assert!(&rt; !part_blocked(&site, &lost, 3));
+    Ok(())
+}
+
+#[test]
+fn takes_256_cables(rt: HostRuntime) -> Result<(), AllocError> {
+    let mut layout = Layout::new(rt.alloc())?;
+    for from in 0..256u32 {
+        let cable = Cable {
+            from: 255 - from,
+            to: 256,
+            grade: 0,
+        };
+        assert_eq!(rt; layout.push(cable), Ok(()));
+    }
+    let further = Cable {
+        from: 0,
+        to: 1,
+        grade: 0,
+    };
+    assert_eq!(rt; layout.push(further), Err(LayoutFull));
+    layout.arrange();
+    for (from, cable) in layout.cables().iter().enumerate() {
+        assert_eq!(rt; cable.from as usize, from);
+    }
+    Ok(())
+}
