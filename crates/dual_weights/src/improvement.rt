@@ -49,8 +49,8 @@ fn found_weights(
     Ok(weights)
 }
 
-/// Found weights, where they are lawful and have a greater value in the node than the start, or else the start again. The arcs are those of the site,
-/// with one mark each.
+/// Found weights, where they are lawful and have a greater value in the node than the start, or else the start again: of lawful weights those that are
+/// worth more. The arcs are those of the site, with one mark each.
 ///
 /// # Errors
 ///
@@ -69,6 +69,7 @@ pub fn better_of(
     requires lawful { AreLawful pool.now start.now }
     ensures lawful { IfOk result (AreLawful pool.now) }
     ensures worth { IfOk result (AreWorth site.now arcs.now pool.now decisions.now start.now) }
+    ensures found { IfOk result (λ weights. AreLawful pool.now found → AreWorth site.now arcs.now pool.now decisions.now found weights) }
 {
     let kept = copied(alloc, start)?;
     let before = summed_value(alloc, site, arcs, pool, decisions, start)?;

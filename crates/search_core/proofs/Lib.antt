@@ -6,9 +6,13 @@ pub mod Acting
 pub mod OpenStart
 -- rows that are listed while a node is worked
 pub mod Listing
+-- weights and their values where further rows are listed
+pub mod Lasting
+-- node 1 is worked before any other
+pub mod FirstWork
 -- what works and steps leave
 pub mod Stepping
--- the work on node 1 leaves it dead, or with a bound of at least the least costs out of the turbines
+-- the work on node 1 leaves it dead, or with a bound of at least the least costs out of the turbines and the cost of the cheapest in-tree
 pub mod SteppingFloor
 -- what is seen of a search by its parts
 pub mod Seeing

@@ -2,8 +2,8 @@
 use Rattle.std.proofs.Common.{◌≡◌, ℕ, ◌+◌, ◌<◌, ◌≤◌, List, [], ◌∷◌, ◌++◌, length, slice_get, Some, All, refl, sym, ◌∙◌, ap, subst, arith, append_assoc, length-append}
 use Rattle.std.specs.Prelude.{sum_by}
 use Rattle.std.proofs.lemmas.List.{append-nil, map-append}
-use Rattle.std.proofs.lemmas.List.Sums.{sum_by-append}
-use Rattle.std.proofs.lemmas.List.Elements.{All-nil, All-cons, All-append}
+use Rattle.std.proofs.lemmas.List.Sums.{sum_by-append, sum_by-cons, sum_by_push}
+use Rattle.std.proofs.lemmas.List.Elements.{All-nil, All-cons, All-head, All-tail, All-append}
 use Rattle.cable_definitions.specs.declared.cable.Arc.{Arc}
 use Rattle.cable_definitions.specs.Site.{Site}
 use Rattle.cable_definitions.specs.Row.{Row, IsWellFormed}
@@ -11,7 +11,8 @@ use Rattle.cable_definitions.specs.Tree.{RowItem, Item, ProofState, empty_state,
 use Rattle.cable_definitions.specs.Core.{are_row_items}
 use Rattle.proof_laws.specs.Decided.{HasPointRows}
 use Rattle.proof_laws.proofs.Boxes.{append_left}
-use Rattle.search_core.specs.Lists.{Lists}
+use Rattle.floor_rows.specs.Listed.{HasRoom, ListsSets}
+use Rattle.search_core.specs.Lists.{Lists, AreFew}
 
 -- items and then others
 pub leads-and : (s : Site) (arcs : List Arc) (n : ℕ) (old mid new : ProofState) (xs ys : List Item) → Leads s arcs n old xs mid → Leads s arcs n mid ys new → Leads s arcs n old (xs ++ ys) new
@@ -85,3 +86,32 @@ pub lists-length : (s : Site) (arcs : List Arc) (old new : List Row) → Lists s
 lists-length s arcs old new lists =
     let count = ap length lists.behind ∙ length-append old lists.rows in
     omega (arith, count)
+
+-- ---- several rows
+-- well-formed rows for which there is room
+lists-rows : (s : Site) (arcs : List Arc) (rows old new : List Row) → All (IsWellFormed s arcs) rows → new ≡ old ++ rows → length old + length rows ≤ 16384
+    → sum_by (λ (r : Row). length r.members) old + sum_by (λ (r : Row). length r.members) rows ≤ 1048576 → Lists s arcs old new
+lists-rows s arcs [] old new all e count members = lists-nothing s arcs old new (e ∙ append-nil old)
+lists-rows s arcs (row ∷ rows) old new all e count members =
+    let more = length-append old (row ∷ []) in
+    let sums = sum_by_push (λ (r : Row). length r.members) old row in
+    let parts = sum_by-cons (λ (r : Row). length r.members) row rows in
+    lists-then s arcs old (old ++ row ∷ []) new
+    (lists-row s arcs row old (old ++ row ∷ []) (All-head (IsWellFormed s arcs) row rows all) refl (omega (arith, count), omega (arith, members, parts)))
+    (lists-rows s arcs rows (old ++ row ∷ []) new (All-tail (IsWellFormed s arcs) row rows all) (e ∙ sym (append_assoc old (row ∷ []) rows)) (omega (arith, count, more)) (omega (arith, members, sums, parts)))
+
+-- the rows of sets are listed, where there is room for them
+pub lists-sets : (s : Site) (arcs : List Arc) (old new : List Row) → HasRoom old → ListsSets s arcs old new → Lists s arcs old new
+lists-sets s arcs old new room sets =
+    let rows = room.rows_count in
+    let members = room.members_count in
+    let more_rows = sets.rows_count in
+    let more_members = sets.members_count in
+    lists-rows s arcs sets.rows old new sets.well_formed sets.listed (omega (arith, rows, more_rows)) (omega (arith, members, more_members))
+
+-- few rows leave room for those of sets
+pub room-few : (rows : List Row) (most : ℕ) → most ≤ 2048 → AreFew rows most → HasRoom rows
+room-few rows most l few =
+    let a = few.rows_count in
+    let b = few.members_count in
+    record { rows_count = omega (arith, a, l); members_count = omega (arith, b, l) }

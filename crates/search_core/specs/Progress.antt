@@ -13,6 +13,7 @@ use Rattle.cable_definitions.specs.Core.{Core, held_count}
 use Rattle.proof_laws.specs.Decided.{HasPointRows}
 use Rattle.branch_tree.specs.State.{IsUnworked}
 use Rattle.search_core.specs.Chosen.{IsBeaten}
+use Rattle.search_core.specs.Lists.{AreFew}
 use Rattle.search_core.specs.declared.progress.Progress.{Progress}
 
 -- what the search keeps of its items
@@ -80,6 +81,10 @@ pub record IsSearching (s : Site) (arcs : List Arc) (n : ℕ) (p : Progress) : T
   pub few_lanes : length p.lanes.items ≤ 16
   pub within : p.tree.works + held_count (core_of items p) ≤ n
   pub known : IsKnown s p.best p.known
+
+-- while no node is worked, at most the first rows are listed, so there is room behind them for the rows of node 1
+abbrev pub HasFirstRoom : Progress → Type 0
+HasFirstRoom p = p.tree.works ≡ 0 → AreFew p.pool 768
 
 -- A full layout of this cost was found: it is the known one where it is cheaper or none was known, and else nothing changes.
 abbrev pub KeepsBest : Site → List Arc → List Mark → ℕ → Option ℕ → List Cable → Option ℕ → List Cable → Type 0

@@ -17,6 +17,12 @@ pub record BeatTurbines (s : Site) (arcs : List Arc) (rows : List Row) (marks : 
   pub is_low : IsValue s arcs rows marks turbines low
   pub at_least : (value : ℤ) → IsValue s arcs rows marks weights value → low ≤ℤ value
 
+-- the weights are worth at least as much in the box of these marks, over the rows that stand after, as the last weights were over those that stood before
+pub record BeatLast (s : Site) (arcs : List Arc) (before after : List Row) (marks : List Mark) (last weights : List (ℕ × ℤ)) : Type 0 where
+  pub low : ℤ
+  pub is_low : IsValue s arcs before marks last low
+  pub at_least : (value : ℤ) → IsValue s arcs after marks weights value → low ≤ℤ value
+
 -- lawful weights with their value in the box of these marks, under which no listed row has a lift, and a share of each arc
 pub record IsRaised (s : Site) (arcs : List Arc) (rows : List Row) (marks : List Mark) (worth : Worth) : Type 0 where
   pub lawful : AreLawful rows worth.weights

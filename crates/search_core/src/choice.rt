@@ -10,7 +10,7 @@ ghost use Rattle.stored_makers.specs.Choosers.{ChoosesFreeArcs, AreBeside};
 ghost use Rattle.search_core.specs.Lists.{Lists};
 ghost use Rattle.search_core.specs.Calls.{IsCalled};
 ghost use Rattle.search_core.specs.Chosen.{IsActFor, IsNodeBound};
-ghost use Rattle.search_core.specs.Raised.{BeatTurbines};
+ghost use Rattle.search_core.specs.Raised.{BeatTurbines, BeatLast};
 
 use crate::closing::{Choice, closing};
 use crate::sharpening::sharpen;
@@ -86,6 +86,7 @@ fn choose_with_rows<
     ensures small { IfOk result (λ choice. choice.bound <ℤ pos (2 ^ 100)) }
     ensures cost { IfOk result (λ choice. choice.act ≡ Act.Full → choice.bound <ℤ pos (2 ^ 64)) }
     ensures floor { IfOk result (λ choice. (a : ℕ) → choice.act ≡ Act.Split a → BeatTurbines site.now arcs.now pool.new decisions.now weights.new) }
+    ensures last { IfOk result (λ choice. (a : ℕ) → choice.act ≡ Act.Split a → AreLawful pool.old last.old → BeatLast site.now arcs.now pool.old pool.new decisions.now last.old weights.new) }
     ensures called { IfOk result (λ choice. (a : ℕ) → choice.act ≡ Act.Split a → IsCalled maker.old maker.new pool.old pool.new) }
 {
     // The points of a site come with the fact that it is valid: a node without a free arc is dead or full.
@@ -111,8 +112,8 @@ fn choose_with_rows<
 }
 
 /// Chooses what is done with a node with these decisions, where this cost is known, lists the rows that this takes, and leaves the weights of the work in
-/// `weights`; `last` are the last weights that were raised, with which these begin. A node that needs no split by the bound of the node above, `parent`,
-/// and by what its used arcs cost, has no weights.
+/// `weights`; `last` are the weights with which these begin, and become those that were raised. A node that needs no split by the bound of the node above,
+/// `parent`, and by what its used arcs cost, has no weights.
 ///
 /// # Errors
 ///
@@ -154,6 +155,7 @@ pub(crate) fn choose<
     ensures small { IfOk result (λ choice. choice.bound <ℤ pos (2 ^ 100)) }
     ensures cost { IfOk result (λ choice. choice.act ≡ Act.Full → choice.bound <ℤ pos (2 ^ 64)) }
     ensures floor { IfOk result (λ choice. (a : ℕ) → choice.act ≡ Act.Split a → BeatTurbines site.now arcs.now pool.new decisions.now weights.new) }
+    ensures last { IfOk result (λ choice. (a : ℕ) → choice.act ≡ Act.Split a → AreLawful pool.old last.old → BeatLast site.now arcs.now pool.old pool.new decisions.now last.old weights.new) }
     ensures called { IfOk result (λ choice. (a : ℕ) → choice.act ≡ Act.Split a → IsCalled maker.old maker.new pool.old pool.new) }
 {
     weights.clear();

@@ -1,6 +1,6 @@
 //! What an event changes.
 
-ghost use Rattle.std.specs.Prelude.{◌≡◌, ℕ, List, Some, Ok, IfOk, OnErr};
+ghost use Rattle.std.specs.Prelude.{◌≡◌, ℕ, List, Some, Ok, IfOk, OnOk, OnErr};
 ghost use Rattle.cable_definitions.specs.declared.cable.Arc.{Arc as AnArc};
 ghost use Rattle.cable_definitions.specs.Site.{Site as ASite};
 ghost use Rattle.cable_definitions.specs.Arcs.{AreArcs};
@@ -11,7 +11,7 @@ ghost use Rattle.stored_makers.specs.Makers.{MakesSoundRows};
 ghost use Rattle.stored_makers.specs.Choosers.{ChoosesFreeArcs};
 ghost use Rattle.search_core.specs.Lists.{Lists};
 ghost use Rattle.search_core.specs.Calls.{IsCalled};
-ghost use Rattle.search_core.specs.Progress.{IsSearching};
+ghost use Rattle.search_core.specs.Progress.{IsSearching, HasFirstRoom};
 ghost use Rattle.search_core.specs.Works.{IsOnlyListed, IsFloored};
 ghost use Rattle.search_core.specs.Steps.{event_of, IsSound, Did};
 
@@ -33,6 +33,7 @@ fn take_node(progress: &mut Progress, lane: u32) -> Step
     ensures did { (s : ASite) (arcs : List AnArc) (n : ℕ) → IsSearching s arcs n progress.old → Did s arcs n progress.old (AnEvent.Take lane) progress.new result }
     ensures searching { (s : ASite) (arcs : List AnArc) (n : ℕ) → IsSearching s arcs n progress.old → IsSearching s arcs n progress.new }
     ensures lists { (s : ASite) (arcs : List AnArc) (n : ℕ) → IsSearching s arcs n progress.old → Lists s arcs progress.old.pool progress.new.pool }
+    ensures room { (s : ASite) (arcs : List AnArc) (n : ℕ) → IsSearching s arcs n progress.old → HasFirstRoom progress.old → HasFirstRoom progress.new }
 {
     let Some(node) = progress.take(lane) else {
         return Step::Nothing;
@@ -46,6 +47,7 @@ fn keep_layout(site: &Site, progress: &mut Progress, layout: &Layout) -> Step
     ensures did { (arcs : List AnArc) (n : ℕ) → IsSearching site.now arcs n progress.old → Did site.now arcs n progress.old (AnEvent.Found layout.now) progress.new result }
     ensures searching { (arcs : List AnArc) (n : ℕ) → IsSearching site.now arcs n progress.old → IsSearching site.now arcs n progress.new }
     ensures lists { (arcs : List AnArc) (n : ℕ) → IsSearching site.now arcs n progress.old → Lists site.now arcs progress.old.pool progress.new.pool }
+    ensures room { (arcs : List AnArc) (n : ℕ) → IsSearching site.now arcs n progress.old → HasFirstRoom progress.old → HasFirstRoom progress.new }
 {
     if !progress.find(site, layout) {
         return Step::Nothing;
@@ -72,6 +74,7 @@ fn work_lane<
 ) -> Result<Step, AllocError>
     requires arcs { AreArcs site.now arcs.now }
     requires searching { (n : ℕ) × IsSearching site.now arcs.now n progress.old }
+    requires room { HasFirstRoom progress.old }
     requires makes { MakesSoundRows F.Fn maker.old.make maker.old.site }
     requires maker_site { maker.old.site ≡ site.now }
     requires chooses { ChoosesFreeArcs G.Fn chooser.now }
@@ -82,6 +85,7 @@ fn work_lane<
     ensures lists { Lists site.now arcs.now progress.old.pool progress.new.pool }
     ensures only_listed { OnErr result (IsOnlyListed progress.old progress.new) }
     ensures searching { (n : ℕ) → IsSearching site.now arcs.now n progress.old → IsSearching site.now arcs.now n progress.new }
+    ensures room { OnOk result (HasFirstRoom progress.new) }
     ensures same_make { maker.new.make ≡ maker.old.make }
     ensures same_site { maker.new.site ≡ maker.old.site }
 {
@@ -115,6 +119,7 @@ pub(crate) fn step_on<
 ) -> Result<Step, AllocError>
     requires arcs { AreArcs site.now arcs.now }
     requires searching { (n : ℕ) × IsSearching site.now arcs.now n progress.old }
+    requires room { HasFirstRoom progress.old }
     requires makes { MakesSoundRows F.Fn maker.old.make maker.old.site }
     requires maker_site { maker.old.site ≡ site.now }
     requires chooses { ChoosesFreeArcs G.Fn chooser.now }
@@ -126,6 +131,7 @@ pub(crate) fn step_on<
     ensures lists { Lists site.now arcs.now progress.old.pool progress.new.pool }
     ensures only_listed { OnErr result (IsOnlyListed progress.old progress.new) }
     ensures searching { (n : ℕ) → IsSearching site.now arcs.now n progress.old → IsSearching site.now arcs.now n progress.new }
+    ensures room { OnOk result (HasFirstRoom progress.new) }
     ensures same_make { maker.new.make ≡ maker.old.make }
     ensures same_site { maker.new.site ≡ maker.old.site }
 {

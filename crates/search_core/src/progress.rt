@@ -11,7 +11,7 @@ ghost use Rattle.cable_definitions.specs.Choice.{AreLawful};
 ghost use Rattle.cable_definitions.specs.Tree.{Item, Node, node_of, marks_of, IsWorked, IsFull};
 ghost use Rattle.cable_definitions.specs.Core.{Event as AnEvent, IsPossible, IsWanted, IsBelowKnown, Takes, Finds, KnownAfter, IsClosed, IsSpent, is_holding, first_core};
 ghost use Rattle.search_core.specs.Chosen.{IsActFor, IsNodeBound};
-ghost use Rattle.search_core.specs.Progress.{kept_of, known_by, core_of, IsSearching, KeepsBest, Settles};
+ghost use Rattle.search_core.specs.Progress.{kept_of, known_by, core_of, IsSearching, HasFirstRoom, KeepsBest, Settles};
 
 use crate::closing::{Choice, is_beaten};
 use crate::open::first_wanted;
@@ -26,7 +26,8 @@ use site_model::Site;
 use std::alloc::{AllocError, Global};
 
 /// The most works, the rows, the tree and its nodes that aren't worked, the node that each lane holds, and the known layout with its cost where one is
-/// known. The decisions are those of the node that is worked, the work is the last that was done, and the last weights are those that were raised last.
+/// known. The decisions are those of the node that is worked, the work is the last that was done, and the last weights are those with which the next work
+/// begins: those that were raised last, or at node 1 those that prove the cost of the cheapest in-tree.
 #[derive(Drop)]
 pub(crate) struct Progress {
     pub(crate) budget: u32,
@@ -180,6 +181,7 @@ impl Progress {
         requires most_works { budget ≤ 50000 }
         requires few_lanes { lanes ≤ 16 }
         ensures searching { IfOk result (IsSearching site.now arcs.now budget) }
+        ensures room { IfOk result HasFirstRoom }
         ensures first { IfOk result (λ p. core_of (first_core site.now lanes).items p ≡ first_core site.now lanes) }
     {
         let _valid = site.points();

@@ -58,6 +58,7 @@ pub(crate) fn list_first_rows(site: &Site, arcs: &Arcs, pool: &mut RowPool)
     requires arcs { AreArcs site.now arcs.now }
     requires empty { pool.old ≡ [] }
     ensures lists { Lists site.now arcs.now [] pool.new }
+    ensures few { AreFew pool.new 768 }
     ensures rows { pool.new ≡ first_rows site.now }
     ensures listed { HasPointRows site.now arcs.now pool.new }
 {
@@ -70,7 +71,8 @@ pub(crate) fn list_first_rows(site: &Site, arcs: &Arcs, pool: &mut RowPool)
 /// than its power.
 pub(crate) fn list_load_rows(site: &Site, arcs: &Arcs, pool: &mut RowPool)
     requires { AreArcs site.now arcs.now }
-    ensures { Lists site.now arcs.now pool.old pool.new }
+    ensures lists { Lists site.now arcs.now pool.old pool.new }
+    ensures few { (most : ℕ) → AreFew pool.old most → AreFew pool.new (most + 512) }
 {
     list_rows_of(site, arcs, pool, RowKind::Flow);
     list_rows_of(site, arcs, pool, RowKind::Power);

@@ -112,7 +112,9 @@ impl<
         })
     }
 
-    /// Has an event happen. A layout that was found has to be legal. `Nothing` comes exactly where the event isn't possible.
+    /// Has an event happen. A layout that was found has to be legal. `Nothing` comes exactly where the event isn't possible. The work on node 1 leaves it
+    /// dead, or with a bound of at least the sum of the least costs out of the turbines, and on a site without bends of at least the cost of the cheapest
+    /// in-tree; where there is no in-tree it is dead.
     ///
     /// # Errors
     ///

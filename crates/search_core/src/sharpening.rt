@@ -47,6 +47,7 @@ fn cut_again<F: Fn(&Site, &Arcs, &Shares) -> Result<Option<Row>, AllocError>>(
     ensures same_make { maker.new.make ≡ maker.old.make }
     ensures same_site { maker.new.site ≡ maker.old.site }
     ensures raised { OnOk result (IsRaised site.now arcs.now pool.new decisions.now worth.new) }
+    ensures risen { OnOk result (worth.old.value ≤ℤ worth.new.value) }
     ensures same_pool { result ≡ Ok false → pool.new ≡ pool.old }
     ensures same_worth { result ≡ Ok false → worth.new ≡ worth.old }
     ensures called { IfOk result (IsOneCall maker.old maker.new pool.old pool.new) }
@@ -91,6 +92,7 @@ pub(crate) fn sharpen<F: Fn(&Site, &Arcs, &Shares) -> Result<Option<Row>, AllocE
     ensures same_make { maker.new.make ≡ maker.old.make }
     ensures same_site { maker.new.site ≡ maker.old.site }
     ensures raised { OnOk result (IsRaised site.now arcs.now pool.new decisions.now worth.new) }
+    ensures risen { OnOk result (worth.old.value ≤ℤ worth.new.value) }
     ensures settled { IfOk result (IsSettledAt site.now arcs.now pool.new decisions.now known (unsigned_abs parent) worth.new.value) }
     ensures called { IfOk result (λ closed. IfNone closed (IsCalled maker.old maker.new pool.old pool.new)) }
 {

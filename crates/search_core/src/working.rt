@@ -2,13 +2,16 @@
 
 ghost use Rattle.std.specs.Prelude.{◌≡◌, ℕ, List, ◌++◌, slice_get, Some, OnOk, OnErr};
 ghost use Rattle.cable_definitions.specs.Arcs.{AreArcs};
+ghost use Rattle.cable_definitions.specs.Choice.{AreLawful};
+ghost use Rattle.cable_definitions.specs.InTree.{HasNoBends};
 ghost use Rattle.cable_definitions.specs.Tree.{Item, Node, node_of};
 ghost use Rattle.cable_definitions.specs.Core.{Works};
 ghost use Rattle.stored_makers.specs.Makers.{MakesSoundRows};
 ghost use Rattle.stored_makers.specs.Choosers.{ChoosesFreeArcs};
-ghost use Rattle.search_core.specs.Lists.{Lists};
+ghost use Rattle.floor_rows.specs.Reached.{ReachFloor};
+ghost use Rattle.search_core.specs.Lists.{Lists, AreFew};
 ghost use Rattle.search_core.specs.Calls.{IsCalled};
-ghost use Rattle.search_core.specs.Progress.{core_of, IsSearching};
+ghost use Rattle.search_core.specs.Progress.{core_of, IsSearching, HasFirstRoom};
 ghost use Rattle.search_core.specs.Works.{items_since, IsOnlyListed, IsFloored};
 
 use crate::choice::choose;
@@ -19,6 +22,8 @@ use bound_value::{Decisions, Weights};
 use branch_tree::Act;
 use cable_rows::{Row, RowPool};
 use candidate_cables::Arcs;
+use floor_rows::list_floor_rows;
+use intree_floor::has_no_bends;
 use site_model::Site;
 use std::alloc::{AllocError, Global};
 use stored_makers::{Chooser, CutMaker};
@@ -28,17 +33,42 @@ fn turns_of(node: u32) -> u32 {
     if node == 1 { 8 } else { 2 }
 }
 
-/// Lists the rows on the loads of single points where node 1 is worked, with which its weights begin.
-fn list_rows_of_node(site: &Site, arcs: &Arcs, pool: &mut RowPool, node: u32)
-    requires { AreArcs site.now arcs.now }
-    ensures { Lists site.now arcs.now pool.old pool.new }
+/// Lists the rows with which the weights of node 1 begin, where that is worked: those on the loads of single points, and on a site without bends those of
+/// sets of turbines by which no in-tree costs less than the cheapest one. Their weights become the last ones. Where there is no in-tree, one of the rows
+/// can't be met.
+///
+/// # Errors
+///
+/// `AllocError` where there is no memory; some rows may be listed then.
+fn list_rows_of_node(
+    alloc: Global,
+    site: &Site,
+    arcs: &Arcs,
+    pool: &mut RowPool,
+    last: &mut Weights,
+    node: u32,
+) -> Result<(), AllocError>
+    requires arcs { AreArcs site.now arcs.now }
+    requires room { node ≡ 1 → AreFew pool.old 768 }
+    ensures lists { Lists site.now arcs.now pool.old pool.new }
+    ensures lawful { OnOk result (node ≡ 1 → HasNoBends site.now → AreLawful pool.new last.new) }
+    ensures floor { OnOk result (node ≡ 1 → HasNoBends site.now → ReachFloor site.now arcs.now pool.new last.new) }
 {
-    if node == 1 {
-        list_load_rows(site, arcs, pool);
+    if node != 1 {
+        return Ok(());
     }
+    list_load_rows(site, arcs, pool);
+    if !has_no_bends(site) {
+        return Ok(());
+    }
+    let floor = list_floor_rows(alloc, site, arcs, pool)?;
+    *last = floor;
+    Ok(())
 }
 
-/// Works the node that a lane holds: lists rows, and does the act that is chosen on the node, by weights that become those of the last work.
+/// Works the node that a lane holds: lists rows, and does the act that is chosen on the node, by weights that become those of the last work. Node 1 is
+/// left dead, or with a bound of at least the sum of the least costs out of the turbines, and on a site without bends of at least the cost of the cheapest
+/// in-tree; where there is no in-tree it is dead.
 ///
 /// # Errors
 ///
@@ -58,6 +88,7 @@ pub(crate) fn work_node<
 ) -> Result<(), AllocError>
     requires arcs { AreArcs site.now arcs.now }
     requires searching { (n : ℕ) × IsSearching site.now arcs.now n progress.old }
+    requires room { HasFirstRoom progress.old }
     requires held { slice_get progress.old.lanes.items lane ≡ Some (Some node) }
     requires makes { MakesSoundRows F.Fn maker.old.make maker.old.site }
     requires maker_site { maker.old.site ≡ site.now }
@@ -67,6 +98,7 @@ pub(crate) fn work_node<
         → Works site.now arcs.now n (core_of items progress.old) lane (core_of (items ++ items_since progress.old progress.new) progress.new)) }
     ensures only_listed { OnErr result (IsOnlyListed progress.old progress.new) }
     ensures searching { (n : ℕ) → IsSearching site.now arcs.now n progress.old → IsSearching site.now arcs.now n progress.new }
+    ensures room { OnOk result (HasFirstRoom progress.new) }
     ensures called { OnOk result ((a : ℕ) → progress.new.work.act ≡ Act.Split a → IsCalled maker.old maker.new progress.old.pool progress.new.pool) }
     ensures floor { OnOk result (node ≡ 1 → (n : ℕ) (made : Node) → IsSearching site.now arcs.now n progress.old → node_of progress.new.tree.nodes 1 ≡ Some made → IsFloored site.now made) }
     ensures node { OnOk result (progress.new.work.node ≡ node) }
@@ -74,7 +106,14 @@ pub(crate) fn work_node<
     ensures same_site { maker.new.site ≡ maker.old.site }
 {
     let mut weights = Weights::new(alloc)?;
-    list_rows_of_node(site, arcs, &mut progress.pool, node);
+    list_rows_of_node(
+        alloc,
+        site,
+        arcs,
+        &mut progress.pool,
+        &mut progress.last,
+        node,
+    )?;
     progress.tree.decisions(node, &mut progress.decisions);
     let parent = progress.tree.bound(node);
     let choice = choose(

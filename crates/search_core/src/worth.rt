@@ -2,8 +2,9 @@
 
 ghost use Rattle.std.specs.Prelude.{◌≡◌, length, All, IfOk};
 ghost use Rattle.cable_definitions.specs.Arcs.{AreArcs};
+ghost use Rattle.cable_definitions.specs.Choice.{AreLawful};
 ghost use Rattle.cable_definitions.specs.Row.{IsWellFormed};
-ghost use Rattle.search_core.specs.Raised.{IsRaised};
+ghost use Rattle.search_core.specs.Raised.{BeatLast, IsRaised};
 
 use bound_shares::Shares;
 use bound_value::{Decisions, Weights};
@@ -42,6 +43,7 @@ pub(crate) fn improved_weights(
     requires marks { length decisions.now ≡ length arcs.now }
     requires well_formed { All (IsWellFormed site.now arcs.now) pool.now }
     ensures raised { IfOk result (IsRaised site.now arcs.now pool.now decisions.now) }
+    ensures last { IfOk result (λ worth. AreLawful pool.now last.now → BeatLast site.now arcs.now pool.now pool.now decisions.now last.now worth.weights) }
 {
     let mut nearest = Weights::new(alloc)?;
     weigh_turbines(site, arcs, pool, decisions, &mut nearest);

@@ -22,3 +22,9 @@ returns-in-Take-clause-floor g c = λ from to n made e first h is.
 pub returns-in-Found-clause-floor : goal.returns-in-Found-clause-floor
 returns-in-Found-clause-floor g c = λ from to n made e first h is.
     absurd (never-by_found _ _ _ _ _ _ _ from to (c.keep_layout-step.ensures.did c.args.arcs.now c.requires.searching.0 c.requires.searching.1) (ok-value _ _ e))
+
+pub returns-in-Take-clause-room : goal.returns-in-Take-clause-room
+returns-in-Take-clause-room g c = c.take_node-step.ensures.room c.args.site.now c.args.arcs.now c.requires.searching.0 c.requires.searching.1 c.requires.room
+
+pub returns-in-Found-clause-room : goal.returns-in-Found-clause-room
+returns-in-Found-clause-room g c = c.keep_layout-step.ensures.room c.args.arcs.now c.requires.searching.0 c.requires.searching.1 c.requires.room

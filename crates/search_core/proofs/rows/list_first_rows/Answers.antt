@@ -26,3 +26,8 @@ returns-clause-listed c =
     (c.list_rows_of-2.ensures.rows (few-most _ 256 1024 first (omega arith))) (c.list_rows_of-3.ensures.rows (few-most _ 512 1024 second (omega arith)))
     in
     subst (HasPointRows s c.args.arcs.now) (sym whole) (first-listed s c.args.arcs.now)
+
+pub returns-clause-few : goal.returns-clause-few
+returns-clause-few c =
+    let none = subst (λ (rows : List Row). AreFew rows 0) (sym c.requires.empty) (few-none 0) in
+    c.list_rows_of-3.ensures.few 512 (c.list_rows_of-2.ensures.few 256 (c.list_rows_of.ensures.few 0 none))

@@ -1,6 +1,7 @@
-use Rattle.std.proofs.Common.{ℕ, List, inr, refl, sym, subst}
+use Rattle.std.proofs.Common.{ℕ, List, [], ◌∷◌, inr, refl, sym, subst}
 use Rattle.cable_definitions.specs.Row.{Row, IsWellFormed}
 use Rattle.cable_rows.proofs.Wellformed.{few_members}
+use Rattle.search_core.proofs.Lasting.{value-risen}
 use Rattle.search_core.proofs.Listing.{lists-row, lists-well_formed}
 use Rattle.search_core.proofs.RaisedCalls.{made-there, nearly-full, of_some}
 use Rattle.stored_makers.specs.Makers.{IsSoundRow, row_made}
@@ -32,3 +33,11 @@ returns-clause-lists g c =
     let sound = of_some c.in_ok-row.field-0 c.in-Some.row (λ row. IsSoundRow c.args.site.now c.args.arcs.now (row_made row)) c.in-Some.is c.in_ok-row.ensures.sound in
     let well_formed = subst (λ (members : List ℕ). IsWellFormed c.args.site.now c.args.arcs.now (record { kind = c.in-Some.row.kind; members = members })) (sym c.as_slice.ensures) sound.well_formed in
     lists-row c.args.site.now c.args.arcs.now row c.args.pool.now c.add.new.self well_formed c.in-Ok.ensures.listed (c.in-Ok.ensures.room.0 refl)
+
+pub returns-clause-risen : goal.returns-clause-risen
+returns-clause-risen g c =
+    let row : Row = record { kind = c.in-Some.row.kind; members = c.as_slice.result.now } in
+    let old = c.requires.raised in
+    let new = c.in_ok-worth.ensures.raised in
+    value-risen c.args.site.now c.args.arcs.now c.args.pool.now (row ∷ []) c.add.new.self c.args.decisions.now c.args.worth.now.weights _ c.args.worth.now.value _ c.in-Ok.ensures.listed old.lawful old.is_value
+    new.is_value c.in_ok-worth.ensures.last

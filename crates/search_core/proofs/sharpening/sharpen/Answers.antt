@@ -1,4 +1,5 @@
-use Rattle.std.proofs.Common.{◌∙◌, ap, Ok, None, Some, subst}
+use Rattle.std.proofs.Common.{◌∙◌, ap, Ok, None, Some, subst, arith}
+use Rattle.std.proofs.lemmas.Int.{ints}
 use Rattle.search_core.specs.Calls.{IsOneCall}
 use Rattle.search_core.specs.declared.worth.Worth.{Worth}
 use Rattle.search_core.proofs.Listing.{lists-then, lists-well_formed}
@@ -24,6 +25,9 @@ pub returns-then-not-branch-clause-lists : goal.returns-then-not-branch-clause-l
 returns-then-not-branch-clause-lists g c =
     lists-then c.args.site.now c.args.arcs.now c.args.pool.now c.loop-call.pool c.cut_again.new.pool c.loop-call.invariant.lists c.cut_again.ensures.lists
 
+pub returns-then-not-branch-clause-risen : goal.returns-then-not-branch-clause-risen
+returns-then-not-branch-clause-risen g c = (let before = c.loop-call.invariant.risen in let more = c.in_ok-cut_again.ensures.risen in omega (arith, ints, before, more))
+
 pub returns-then-not-branch-clause-settled : goal.returns-then-not-branch-clause-settled
 returns-then-not-branch-clause-settled g c =
     settled-kept c.args.site.now c.args.arcs.now c.loop-call.pool c.cut_again.new.pool c.args.decisions.now c.args.known _ c.loop-call.worth.value c.cut_again.new.worth.value None
@@ -44,6 +48,7 @@ loop-call-preserved g c = record {
   same_make = c.cut_again.ensures.same_make ∙ c.loop-call.invariant.same_make;
   same_site = c.cut_again.ensures.same_site ∙ c.loop-call.invariant.same_site;
   raised = c.in_ok-cut_again.ensures.raised;
+  risen = (let before = c.loop-call.invariant.risen in let more = c.in_ok-cut_again.ensures.risen in omega (arith, ints, before, more));
   calls =
       calls-then c.args.maker.now c.loop-call.maker c.cut_again.new.maker c.args.pool.now c.loop-call.pool c.cut_again.new.pool c.loop-call.call c.loop-call.invariant.calls
       (subst (IsOneCall c.loop-call.maker c.cut_again.new.maker c.loop-call.pool c.cut_again.new.pool) c.if-not-branch.false c.in_ok-cut_again.ensures.called);

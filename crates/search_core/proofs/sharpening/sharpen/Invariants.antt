@@ -1,4 +1,4 @@
-use Rattle.std.proofs.Common.{◌≡◌}
+use Rattle.std.proofs.Common.{◌≡◌, ◌≤ℤ◌}
 use Rattle.search_core.specs.Lists.{Lists}
 use Rattle.search_core.specs.Calls.{AreCalls}
 use Rattle.search_core.specs.Raised.{IsRaised}
@@ -10,5 +10,6 @@ invariant-loop-call g l = record {
   same_make : l.maker.make ≡ l.initial.maker.make;
   same_site : l.maker.site ≡ l.initial.maker.site;
   raised : IsRaised l.site l.arcs l.pool l.decisions l.worth;
+  risen : l.initial.worth.value ≤ℤ l.worth.value;
   calls : AreCalls l.initial.maker l.maker l.initial.pool l.pool l.call;
 }

@@ -1,0 +1,6 @@
+-- the rows of sets of turbines
+mod Sets
+-- the rows of sets and their weights, as they are listed one after another
+mod Adding
+-- what the weights reach, for callers
+pub mod Reaching
