@@ -1,5 +1,5 @@
 -- The parts of a search together.
-use Rattle.std.proofs.Common.{◌≡◌, ℕ, ◌≤◌, inl, inr, List, [], ◌++◌, Some, None, Option, Result, Ok, Err, map, sym, ◌∙◌, ap, subst, arith}
+use Rattle.std.proofs.Common.{◌≡◌, ℕ, ◌≤◌, inl, inr, List, [], ◌++◌, Some, None, Option, Result, Ok, Err, map, refl, sym, ◌∙◌, ap, subst, arith}
 use Rattle.std.specs.Prelude.{OnErr, IsErr, IsErrAnd, drop}
 use Rattle.std.specs.List.{concat}
 use Rattle.std.proofs.lemmas.List.{append-nil, length-replicate}
@@ -9,11 +9,12 @@ use Rattle.cable_definitions.specs.declared.claim.Claim.{Claim}
 use Rattle.cable_definitions.specs.Site.{Site, IsValid}
 use Rattle.cable_definitions.specs.Arcs.{AreArcs}
 use Rattle.cable_definitions.specs.Row.{Row}
-use Rattle.cable_definitions.specs.Tree.{Node, Item, root, node_of}
+use Rattle.cable_definitions.specs.Tree.{Node, Item, root, empty_state, node_of}
 use Rattle.cable_definitions.specs.Text.{item_lines}
 use Rattle.cable_definitions.specs.Core.{Core, Found, Steps, Runs, held_count, first_core, are_row_items}
 use Rattle.cable_text.specs.declared.stream.Failed.{Failed}
 use Rattle.cable_text.specs.Stream.{Rose, Appends, Writes}
+use Rattle.cable_text.proofs.Writing.{Appends-nothing}
 use Rattle.run_definitions.specs.Rounds.{found, LeadToEnd}
 use Rattle.search_laws.specs.Cores.{IsCore}
 use Rattle.search_laws.proofs.Starting.{first-core}
@@ -21,7 +22,10 @@ use Rattle.search_laws.proofs.Stepping.{run-core}
 use Rattle.search_laws.proofs.Lanes.{none_at_first}
 use Rattle.plan_search.specs.declared.finding.SearchFault.{SearchFault}
 use Rattle.plan_search.specs.declared.finding.SearchFault.TheVariants.{Write}
-use Rattle.plan_search.specs.Start.{BeatsStraight, IsKnown, layout_of}
+use Rattle.plan_search.specs.declared.start.Settled.{Settled}
+use Rattle.plan_search.specs.declared.start.Incumbent.{Incumbent}
+use Rattle.plan_search.specs.declared.start.Incumbent.TheVariants.{Known, Part}
+use Rattle.plan_search.specs.Start.{BeatsStraight, CanBegin, layout_of}
 use Rattle.plan_search.specs.Rounds.{IsIdle}
 use Rattle.plan_search.specs.Found.{FindsPlan, WritesPart}
 use Rattle.plan_search.specs.Ended.{IsFloored, IsNoDearer, HasEnded, IsConcluded}
@@ -59,49 +63,48 @@ begun-idle s arcs n lanes start begun valid are runs =
 
 -- node 1 isn't worked yet
 pub begun-floored : (s : Site) (arcs : List Arc) (n lanes : ℕ) (start : Option (List Cable)) (begun : Core) → Runs s arcs n (first_core s lanes) (found start) begun → IsFloored s begun.kept.nodes
-begun-floored s arcs n lanes start begun runs nearest first total made worked =
+begun-floored s arcs n lanes start begun runs first made worked =
     let same = same-begun s arcs n (first_core s lanes) begun start runs in
     let e : Some root ≡ Some first = sym (ap (λ (nodes : List Node). node_of nodes 1) same.nodes) ∙ made in
     let is : root ≡ first = cc in
     absurd (worked (ap (λ (node : Node). node.status) (sym is)))
 
 -- the layout to begin with is known then
-begun-known : (s : Site) (arcs : List Arc) (n lanes total stuck : ℕ) (layout : List Cable) (begun : Core) → IsKnown s layout stuck (Some total) → Runs s arcs n (first_core s lanes) (found (Some layout)) begun → begun.known ≡ Some layout
-begun-known s arcs n lanes total stuck layout begun is runs = ap (λ (c : Core). c.known) runs.2 ∙ known runs.1
+begun-known : (s : Site) (arcs : List Arc) (n lanes : ℕ) (settled : Settled) (begun : Core) → CanBegin s (Known settled) → Runs s arcs n (first_core s lanes) (found (Some settled.layout)) begun → begun.known ≡ Some settled.layout
+begun-known s arcs n lanes settled begun is runs = ap (λ (c : Core). c.known) runs.2 ∙ known runs.1
   where
-    known : Steps s arcs n (first_core s lanes) (Found layout) runs.0 → runs.0.known ≡ Some layout
+    known : Steps s arcs n (first_core s lanes) (Found settled.layout) runs.0 → runs.0.known ≡ Some settled.layout
     known (inl finds) = ap (λ (c : Core). c.known) finds.after
-    known (inr nothing) = absurd (nothing.0 (is.legal, tt))
+    known (inr nothing) = absurd (nothing.0 (is.1.legal, tt))
 
 -- ---- the end of the rounds
 -- no layout that is known at the end costs more than the one to begin with
-ended-no_dearer : (s : Site) (arcs : List Arc) (n lanes rounds stuck : ℕ) (first : Option ℕ) (layout : List Cable) (begun ended : Core) → IsKnown s layout stuck first
-    → Runs s arcs n (first_core s lanes) (found (layout_of first layout)) begun → LeadToEnd s arcs n lanes rounds begun ended → IsNoDearer s first ended.known
-ended-no_dearer s arcs n lanes rounds stuck None layout begun ended is runs lead total e = absurd (cc)
-ended-no_dearer s arcs n lanes rounds stuck (Some most) layout begun ended is runs lead total e =
-    let same : most ≡ total = cc in
-    let falls = lead-falls s arcs n lanes rounds begun ended layout lead (begun-known s arcs n lanes most stuck layout begun is runs) in
+ended-no_dearer : (s : Site) (arcs : List Arc) (n lanes rounds : ℕ) (start : Incumbent) (begun ended : Core) → CanBegin s start → Runs s arcs n (first_core s lanes) (found (layout_of start)) begun
+    → LeadToEnd s arcs n lanes rounds begun ended → IsNoDearer s start ended.known
+ended-no_dearer s arcs n lanes rounds (Part part turbine) begun ended is runs lead = tt
+ended-no_dearer s arcs n lanes rounds (Known settled) begun ended is runs lead =
+    let falls = lead-falls s arcs n lanes rounds begun ended settled.layout lead (begun-known s arcs n lanes settled begun is runs) in
     let low = falls.2 in
-    let costs = is.cost_is in
-    (falls.0, falls.1, omega (arith, low, costs, same))
+    let costs = is.1.cost_is in
+    (falls.0, falls.1, omega (arith, low, costs))
 
 -- the layout to begin with is in order
-found-first : (s : Site) (layout : List Cable) (stuck : ℕ) (first : Option ℕ) → IsKnown s layout stuck first → AreFoundInOrder (found (layout_of first layout))
-found-first s layout stuck None is = tt
-found-first s layout stuck (Some total) is = (is.in_order, tt)
+found-first : (s : Site) (start : Incumbent) → CanBegin s start → AreFoundInOrder (found (layout_of start))
+found-first s (Part part turbine) is = tt
+found-first s (Known settled) is = (is.1.in_order, tt)
 
-pub ended-all : (s : Site) (arcs : List Arc) (n lanes rounds stuck : ℕ) (first : Option ℕ) (layout : List Cable) (begun ended : Core) → IsValid s → AreArcs s arcs → 1 ≤ n → IsKnown s layout stuck first → BeatsStraight s first
-    → Runs s arcs n (first_core s lanes) (found (layout_of first layout)) begun → LeadToEnd s arcs n lanes rounds begun ended → IsFloored s ended.kept.nodes → HasEnded s arcs n first ended
-ended-all s arcs n lanes rounds stuck first layout begun ended valid are some is straight runs lead floored = record {
+pub ended-all : (s : Site) (arcs : List Arc) (n lanes rounds : ℕ) (start : Incumbent) (begun ended : Core) → IsValid s → AreArcs s arcs → 1 ≤ n → CanBegin s start → BeatsStraight s start
+    → Runs s arcs n (first_core s lanes) (found (layout_of start)) begun → LeadToEnd s arcs n lanes rounds begun ended → IsFloored s ended.kept.nodes → HasEnded s arcs n start ended
+ended-all s arcs n lanes rounds start begun ended valid are some is straight runs lead floored = record {
   valid = valid;
   are_arcs = are;
   some = some;
-  is_core = lead-core s arcs n lanes rounds begun ended valid are (begun-idle s arcs n lanes (layout_of first layout) begun valid are runs).is_core lead;
+  is_core = lead-core s arcs n lanes rounds begun ended valid are (begun-idle s arcs n lanes (layout_of start) begun valid are runs).is_core lead;
   at_end = lead-end s arcs n lanes rounds begun ended lead;
   straight = straight;
-  no_dearer = ended-no_dearer s arcs n lanes rounds stuck first layout begun ended is runs lead;
+  no_dearer = ended-no_dearer s arcs n lanes rounds start begun ended is runs lead;
   in_order = rounds-in_order s arcs n lanes rounds begun ended are lead
-      (run-in_order s arcs n (first_core s lanes) begun (found (layout_of first layout)) are (found-first s layout stuck first is) runs (λ cables e. absurd (cc)));
+      (run-in_order s arcs n (first_core s lanes) begun (found (layout_of start)) are (found-first s start is) runs (λ cables e. absurd (cc)));
   floored = floored;
 }
 
@@ -121,6 +124,11 @@ pub part-told : {A : Type 0} (r : Result A SearchFault) (s : Site) (arcs : List 
     → OnErr r (WritesPart s arcs n a b)
 part-told (Ok u) s arcs n core a b i j is told = tt
 part-told (Err f) s arcs n core a b i j is told = record { items = core.items; kept = core.kept; accepted = is.accepted; written = told.part }
+
+-- where memory was lacking before anything was written
+pub part-none : {A : Type 0} (r : Result A SearchFault) (s : Site) (arcs : List Arc) (n : ℕ) (a : Option (List ℕ)) → OnErr r (WritesPart s arcs n a a)
+part-none (Ok u) s arcs n a = tt
+part-none (Err f) s arcs n a = record { items = []; kept = empty_state; accepted = refl; written = ([], [], refl, Appends-nothing a) }
 
 -- where all was written and then memory was lacking
 pub part-whole : {A B : Type 0} {u : A} (r : Result B SearchFault) (s : Site) (arcs : List Arc) (n : ℕ) (core : Core) (a b : Option (List ℕ)) (i j : ℕ) → IsCore s arcs n core
@@ -155,6 +163,8 @@ finds s arcs n lanes rounds start begun ended last cables claim a b valid are ru
   outcome = concluded.outcome;
   known = concluded.known;
   floor = concluded.floor;
+  in_trees = concluded.in_trees;
+  no_in_tree = concluded.no_in_tree;
   written = subst (λ (xs : List Item). Appends a b (concat (map item_lines xs))) (sym concluded.items) written;
 }
 
@@ -186,19 +196,19 @@ ends-at lanes {r} {s} {t} {arcs} {brcs} {n} {m} {old} {now} {a} {b} {i} {j} e f 
 
 -- ---- all of it
 -- a search from its first state, whose rows were written, to where its rounds ended
-pub record IsWhole (s : Site) (arcs : List Arc) (n lanes : ℕ) (first : Option ℕ) (layout : List Cable) (begun : Core) (now : List Item → Core) (a b : Option (List ℕ)) (i j : ℕ) : Type 0 where
+pub record IsWhole (s : Site) (arcs : List Arc) (n lanes : ℕ) (start : Incumbent) (begun : Core) (now : List Item → Core) (a b : Option (List ℕ)) (i j : ℕ) : Type 0 where
   pub rounds : ℕ
   pub items : List Item
   pub lead : LeadToEnd s arcs n lanes rounds begun (now items)
-  pub has_ended : HasEnded s arcs n first (now items)
+  pub has_ended : HasEnded s arcs n start (now items)
   pub same : (now items).items ≡ items
   pub told : Tells {A = Unit {0}} (Ok tt) a b i j (concat (map item_lines (now items).items))
 
-pub whole : {A : Type 0} {u : A} {s : Site} {arcs : List Arc} {n : ℕ} (lanes stuck : ℕ) (first : Option ℕ) (layout : List Cable) {begun : Core} {now : List Item → Core} {a b c : Option (List ℕ)} {i j k : ℕ}
-    → ((items : List Item) → (now items).items ≡ items) → IsValid s → AreArcs s arcs → 1 ≤ n → IsKnown s layout stuck first → BeatsStraight s first → Runs s arcs n (first_core s lanes) (found (layout_of first layout)) begun
+pub whole : {A : Type 0} {u : A} {s : Site} {arcs : List Arc} {n : ℕ} (lanes : ℕ) (start : Incumbent) {begun : Core} {now : List Item → Core} {a b c : Option (List ℕ)} {i j k : ℕ}
+    → ((items : List Item) → (now items).items ≡ items) → IsValid s → AreArcs s arcs → 1 ≤ n → CanBegin s start → BeatsStraight s start → Runs s arcs n (first_core s lanes) (found (layout_of start)) begun
     → Tells {A = Unit {0}} (Ok tt) a b i j (concat (map item_lines (first_core s lanes).items)) → Advances {A = A} (Ok u) s arcs n begun (Ends s arcs n lanes begun) now b c j k
-    → ((items : List Item) → IsFloored s (now items).kept.nodes) → IsWhole s arcs n lanes first layout begun now a c i k
-whole {u = u} {s} {arcs} {n} lanes stuck first layout {begun} {now} {a} {b} {c} {i} {j} {k} named valid are some is straight runs told p floored =
+    → ((items : List Item) → IsFloored s (now items).kept.nodes) → IsWhole s arcs n lanes start begun now a c i k
+whole {u = u} {s} {arcs} {n} lanes start {begun} {now} {a} {b} {c} {i} {j} {k} named valid are some is straight runs told p floored =
     let items : List Item = p.core.items in
     let at : p.core ≡ now items = p.reached.1 in
     let lead : LeadToEnd s arcs n lanes p.reached.0.0 begun (now items) = subst (LeadToEnd s arcs n lanes p.reached.0.0 begun) at p.reached.0.1 in
@@ -206,9 +216,9 @@ whole {u = u} {s} {arcs} {n} lanes stuck first layout {begun} {now} {a} {b} {c} 
       rounds = p.reached.0.0;
       items = items;
       lead = lead;
-      has_ended = ended-all s arcs n lanes p.reached.0.0 stuck first layout begun (now items) valid are some is straight runs lead (floored items);
+      has_ended = ended-all s arcs n lanes p.reached.0.0 start begun (now items) valid are some is straight runs lead (floored items);
       same = named items;
-      told = tells-ok tt (subst (λ (x : Core). Tells (Ok u) a c i k (concat (map item_lines x.items))) at (tells-all lanes (layout_of first layout) runs told p));
+      told = tells-ok tt (subst (λ (x : Core). Tells (Ok u) a c i k (concat (map item_lines x.items))) at (tells-all lanes (layout_of start) runs told p));
     }
 
 -- where the rounds stopped early

@@ -57,14 +57,14 @@ first-made nodes (suc (suc k)) node e other = some_at nodes 0 (let within = slic
 
 -- a work on another node leaves node 1 as it was
 other-floored : (s : Site) (arcs : List Arc) (n lane : ℕ) (old new : Core) → (works : Works s arcs n old lane new) → works.node ≢ 1 → IsFloored s old.kept.nodes → IsFloored s new.kept.nodes
-other-floored s arcs n lane old new works other h nearest first total made worked =
+other-floored s arcs n lane old new works other h first made worked =
     let was = first-made works.listed.nodes works.node works.work_accepted.node works.work_accepted.made other in
     let kept : new.kept.nodes ≡ works.kept.nodes = ap (λ (c : Core). c.kept.nodes) works.after in
     let stays = other-acted s arcs works.listed works.node works.work_accepted.node works.work_accepted.value works.act works.kept.nodes works.work_accepted.made works.work_accepted.acted 1 was.0 (λ e. other (sym e)) was.1 in
     let e : Some was.0 ≡ Some first = sym stays ∙ sym (ap (λ (nodes : List Node). node_of nodes 1) kept) ∙ made in
     let same : was.0 ≡ first = cc in
     let listed = (rows-listed s arcs n works.rows old.kept works.listed works.rows_accepted).nodes in
-    h nearest first total (sym (ap (λ (nodes : List Node). node_of nodes 1) listed) ∙ was.1 ∙ ap Some same) worked
+    h first (sym (ap (λ (nodes : List Node). node_of nodes 1) listed) ∙ was.1 ∙ ap Some same) worked
 
 -- so each step keeps node 1 floored, where a work on it leaves it so
 pub floored-step : (s : Site) (arcs : List Arc) (n lane : ℕ) (old new : Progress) (step : Step) → Did s arcs n old (Work lane) new step
@@ -73,7 +73,7 @@ floored-step s arcs n lane old new Nothing did floor h = floored-same s old.tree
 floored-step s arcs n lane old new (Took v) did floor h = absurd (let at = did.took v refl in let e = at.1 in cc)
 floored-step s arcs n lane old new Kept did floor h = absurd (let at = did.kept refl in let e = at.1 in cc)
 floored-step s arcs n lane old new (Worked from to) did floor h = elim (cases_eq works.node 1) [
-  | inl one ↦ (λ nearest first total made worked. floor from to first refl (same ∙ one) made nearest total)
+  | inl one ↦ (λ first made worked. floor from to first refl (same ∙ one) made)
   | inr other ↦ other-floored s arcs n lane (core_of [] old) (core_of ([] ++ items_of old new (Worked from to)) new) works other h
 ]
   where

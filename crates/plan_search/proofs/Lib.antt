@@ -13,3 +13,5 @@ pub mod Looping
 pub mod Closing
 pub mod Assembling
 pub mod Flooring
+pub mod Reducing
+pub mod Handing

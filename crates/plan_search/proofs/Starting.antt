@@ -1,5 +1,5 @@
 -- The layout that a search begins with, and how a layout is settled.
-use Rattle.std.proofs.Common.{◌≡◌, ℕ, ◌<◌, ◌≤◌, ◌⊎◌, inl, inr, List, get_or, slice_get, Some, None, sym, ◌∙◌, ap, subst, arith}
+use Rattle.std.proofs.Common.{◌≡◌, ℕ, ◌<◌, ◌≤◌, ◌⊎◌, inl, inr, List, get_or, slice_get, Some, sym, ◌∙◌, ap, subst, arith}
 use Rattle.std.specs.Prelude.{AllPairs}
 use Rattle.std.proofs.lemmas.Option.{slice_get-get_or}
 use Rattle.cable_definitions.specs.declared.cable.Cable.{Cable}
@@ -14,6 +14,8 @@ use Rattle.layout_laws.proofs.Arcs.{IsBlocked-ordered, IsSettled-ordered}
 use Rattle.layout_meaning.specs.Order.{ComesBefore}
 use Rattle.start_layout.specs.declared.starting.Start.{Start as AStart}
 use Rattle.start_layout.specs.declared.starting.Start.TheVariants.{Found, Stuck}
+use Rattle.plan_search.specs.declared.start.Settled.{Settled}
+use Rattle.plan_search.specs.declared.start.Incumbent.TheVariants.{Known, Part}
 use Rattle.plan_search.specs.Start.{IsIncumbent, IsStuckPart, BeatsStraight, IsSettledBest}
 use Rattle.plan_search.proofs.Ordered.{same-ordered, same-stable}
 
@@ -67,20 +69,20 @@ settled_best s first better arranged cables best settled same less differ outs e
     as_dear = cost-ordered s better arranged settled.legal.start (differ settled.legal.start) (outs settled.legal.start)
 
 -- where the growth is stuck, the straight layout isn't legal
-pub stuck-straight : (s : Site) (start : AStart) (part : List Cable) (turbine : ℕ) → start ≡ Stuck part turbine
-    → ((straight : List Cable) → IsStraight s straight → IsLegal s straight → (layout : List Cable) × (price : ℕ) × (start ≡ Found layout price) × (price ≤ cost s straight)) → BeatsStraight s None
-stuck-straight s start part turbine e within straight is legal =
+pub stuck-straight : (s : Site) (start : AStart) (part cables : List Cable) (turbine : ℕ) → start ≡ Stuck part turbine
+    → ((straight : List Cable) → IsStraight s straight → IsLegal s straight → (layout : List Cable) × (price : ℕ) × (start ≡ Found layout price) × (price ≤ cost s straight)) → BeatsStraight s (Part cables turbine)
+stuck-straight s start part cables turbine e within straight is legal =
     let w = within straight is legal in
     let both : Stuck part turbine ≡ Found w.0 w.1 = sym e ∙ w.2 in
     cc
 
 -- what is found and then settled costs no more than the straight layout
-pub found-straight : (s : Site) (start : AStart) (layout cables : List Cable) (price best : ℕ) → start ≡ Found layout price → cost s layout ≡ price → IsSettledBest s layout cables best
-    → ((straight : List Cable) → IsStraight s straight → IsLegal s straight → (layout : List Cable) × (price : ℕ) × (start ≡ Found layout price) × (price ≤ cost s straight)) → BeatsStraight s (Some best)
-found-straight s start layout cables price best e costs settled within straight is legal =
+pub found-straight : (s : Site) (start : AStart) (layout : List Cable) (price : ℕ) (settled : Settled) → start ≡ Found layout price → cost s layout ≡ price → IsSettledBest s layout settled.layout settled.cost
+    → ((straight : List Cable) → IsStraight s straight → IsLegal s straight → (layout : List Cable) × (price : ℕ) × (start ≡ Found layout price) × (price ≤ cost s straight)) → BeatsStraight s (Known settled)
+found-straight s start layout price settled e costs best within straight is legal =
     let w = within straight is legal in
     let both : Found layout price ≡ Found w.0 w.1 = sym e ∙ w.2 in
     let same : price ≡ w.1 = cc in
-    let low = settled.no_dearer in
+    let low = best.no_dearer in
     let most = w.3 in
     omega (arith, costs, same, low, most)

@@ -1,42 +1,47 @@
 -- A search that is at its end, and what is concluded from it.
-use Rattle.std.specs.Prelude.{◌≡◌, ◌≢◌, ℕ, ◌≤◌, ◌⊎◌, List, Option, Some}
+use Rattle.std.specs.Prelude.{◌≡◌, ◌≢◌, ℕ, ◌≤◌, List, Option, Some}
 use Rattle.cable_definitions.specs.declared.cable.Cable.{Cable}
 use Rattle.cable_definitions.specs.declared.cable.Arc.{Arc}
 use Rattle.cable_definitions.specs.declared.claim.Claim.{Claim}
+use Rattle.cable_definitions.specs.declared.claim.Claim.TheVariants.{Infeasible}
 use Rattle.cable_definitions.specs.Site.{Site, IsValid}
 use Rattle.cable_definitions.specs.Arcs.{AreArcs}
-use Rattle.cable_definitions.specs.Budget.{IsNearest}
 use Rattle.cable_definitions.specs.Layout.{cost}
 use Rattle.cable_definitions.specs.Part.{IsSettled}
-use Rattle.cable_definitions.specs.Tree.{Unworked, WasDead, Node, node_of}
+use Rattle.cable_definitions.specs.InTree.{HasNoBends}
+use Rattle.cable_definitions.specs.Tree.{Unworked, Node, node_of}
 use Rattle.cable_definitions.specs.Core.{Core, Runs}
-use Rattle.run_definitions.specs.Plan.{IsAtLeastFirstCables}
+use Rattle.run_definitions.specs.Plan.{IsAtLeastFirstCables, IsAtLeastInTrees, HasNoInTree}
 use Rattle.run_definitions.specs.Rounds.{found, IsAtEnd}
 use Rattle.search_laws.specs.Cores.{IsCore}
+use Rattle.search_core.specs.Works.{IsFloored as IsNodeFloored}
+use Rattle.plan_search.specs.declared.start.Incumbent.{Incumbent}
+use Rattle.plan_search.specs.declared.start.Incumbent.TheVariants.{Known, Part}
 use Rattle.plan_search.specs.Start.{AreInOrder, BeatsStraight}
 use Rattle.plan_search.specs.Found.{IsOutcome, HasCost}
 
--- once node 1 is worked it is dead, or its bound is at least the sum of the turbines' cheapest first cables
+-- once node 1 is worked it is as the work on it leaves it
 abbrev pub IsFloored : Site → List Node → Type 0
-IsFloored s nodes = (nearest : ℕ) (first : Node) → IsNearest s nearest → node_of nodes 1 ≡ Some first → first.status ≢ Unworked → (first.status ≡ WasDead) ⊎ (nearest ≤ first.bound)
+IsFloored s nodes = (first : Node) → node_of nodes 1 ≡ Some first → first.status ≢ Unworked → IsNodeFloored s first
 
 -- the known layout, where there is one, stands in ascending order of start
 abbrev pub IsKnownInOrder : Option (List Cable) → Type 0
 IsKnownInOrder known = (cables : List Cable) → known ≡ Some cables → AreInOrder cables
 
--- where a layout of this cost was known, one is known that costs no more
-abbrev pub IsNoDearer : Site → Option ℕ → Option (List Cable) → Type 0
-IsNoDearer s first known = (total : ℕ) → first ≡ Some total → (cables : List Cable) × (known ≡ Some cables) × (cost s cables ≤ total)
+-- where the search began with a layout, one is known that costs no more
+abbrev pub IsNoDearer : Site → Incumbent → Option (List Cable) → Type 0
+IsNoDearer s (Known settled) known = (cables : List Cable) × (known ≡ Some cables) × (cost s cables ≤ settled.cost)
+IsNoDearer s (Part part turbine) known = Unit {0}
 
--- a search that is at its end, and that began with a layout of the first cost, if any
-pub record HasEnded (s : Site) (arcs : List Arc) (n : ℕ) (first : Option ℕ) (core : Core) : Type 0 where
+-- a search that is at its end, and what it began with
+pub record HasEnded (s : Site) (arcs : List Arc) (n : ℕ) (start : Incumbent) (core : Core) : Type 0 where
   pub valid : IsValid s
   pub are_arcs : AreArcs s arcs
   pub some : 1 ≤ n
   pub is_core : IsCore s arcs n core
   pub at_end : IsAtEnd s n core
-  pub straight : BeatsStraight s first
-  pub no_dearer : IsNoDearer s first core.known
+  pub straight : BeatsStraight s start
+  pub no_dearer : IsNoDearer s start core.known
   pub in_order : IsKnownInOrder core.known
   pub floored : IsFloored s core.kept.nodes
 
@@ -49,3 +54,5 @@ pub record IsConcluded (s : Site) (arcs : List Arc) (n : ℕ) (ended core : Core
   pub outcome : IsOutcome s arcs n core.kept cables claim
   pub known : (total : ℕ) → HasCost claim total → core.known ≡ Some cables
   pub floor : IsAtLeastFirstCables s claim
+  pub in_trees : HasNoBends s → IsAtLeastInTrees s claim
+  pub no_in_tree : HasNoBends s → HasNoInTree s → claim ≡ Infeasible

@@ -9,10 +9,11 @@ use Rattle.cable_definitions.specs.Site.{Site}
 use Rattle.cable_definitions.specs.Layout.{IsLegal, cost}
 use Rattle.cable_definitions.specs.Part.{IsStraight}
 use Rattle.cable_definitions.specs.Budget.{enough_budget}
+use Rattle.cable_definitions.specs.InTree.{HasNoBends}
 use Rattle.cable_definitions.specs.Tree.{WasFull, Node, Item, ProofState, node_of, IsAccepted, Agrees}
 use Rattle.cable_definitions.specs.Text.{item_lines}
 use Rattle.cable_text.specs.Stream.{Appends, AppendsPrefix}
-use Rattle.run_definitions.specs.Plan.{IsFinal, CostsAtMost, IsSettledFor, HasIsolatedTurbine, IsAtLeastFirstCables}
+use Rattle.run_definitions.specs.Plan.{IsFinal, CostsAtMost, IsSettledFor, HasIsolatedTurbine, IsAtLeastFirstCables, IsAtLeastInTrees, HasNoInTree}
 use Rattle.run_definitions.specs.Rounds.{IsSearched}
 use Rattle.cable_definitions.specs.Core.{Core}
 
@@ -38,7 +39,8 @@ HasCost (Partial bound stuck) total = ⊥
 HasCost Infeasible total = ⊥
 
 -- The items of a search that is at its end, and whose lines were appended to a sink, with the layout and the claim of the outcome; a layout with a cost
--- is the one that the search knows. The bound is at least the sum of the turbines' cheapest first cables.
+-- is the one that the search knows. The bound is at least the sum of the turbines' cheapest first cables, and on a site without bends at least the cost of
+-- the cheapest in-tree; where there is no in-tree either, the claim is that there is no layout.
 pub record FindsPlan (s : Site) (arcs : List Arc) (n lanes : ℕ) (taken_old taken_new : Option (List ℕ)) (cables : List Cable) (claim : Claim) : Type 0 where
   pub core : Core
   pub searched : IsSearched s arcs n lanes core
@@ -46,6 +48,8 @@ pub record FindsPlan (s : Site) (arcs : List Arc) (n lanes : ℕ) (taken_old tak
   pub outcome : IsOutcome s arcs n core.kept cables claim
   pub known : (total : ℕ) → HasCost claim total → core.known ≡ Some cables
   pub floor : IsAtLeastFirstCables s claim
+  pub in_trees : HasNoBends s → IsAtLeastInTrees s claim
+  pub no_in_tree : HasNoBends s → HasNoInTree s → claim ≡ Infeasible
   pub written : Appends taken_old taken_new (concat (map item_lines core.items))
 
 -- a first part of the lines of accepted items was appended

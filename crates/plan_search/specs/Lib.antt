@@ -8,3 +8,5 @@ pub mod Found
 pub mod Ended
 -- a part of a search: events that lead on, and the lines of their items
 pub mod Steps
+-- shares that are handed to a maker of rows
+pub mod Making

@@ -6,21 +6,23 @@ ghost use Rattle.cable_definitions.specs.Tree.{Item};
 ghost use Rattle.cable_definitions.specs.Core.{Core, Runs};
 ghost use Rattle.run_definitions.specs.Rounds.{found};
 ghost use Rattle.search_core.specs.State.{IsRunning, KeepsParts, core};
-ghost use Rattle.plan_search.specs.Start.{IsKnown, layout_of};
+ghost use Rattle.plan_search.specs.Start.{CanBegin, layout_of};
 ghost use Rattle.plan_search.specs.Ended.{HasEnded, IsConcluded};
 
 use crate::finding::Plan;
-use crate::outcome::{claim_of, no_layout, part_claim};
-use crate::start::{Best, settle_layout};
+use crate::outcome::{claim_of, part_plan};
+use crate::start::{Incumbent, settle_layout};
 use bound_shares::Shares;
 use bound_value::Decisions;
+use cable_definitions::claim::Claim;
 use cable_rows::Row;
 use candidate_cables::Arcs;
+use layout_meaning::Layout;
 use search_core::{Event, Search};
 use site_model::Site;
 use std::alloc::{AllocError, Global};
 
-/// Has a search find the layout to begin with, where its cost is known.
+/// Has a search find the layout to begin with, where there is one.
 ///
 /// # Errors
 ///
@@ -28,18 +30,18 @@ use std::alloc::{AllocError, Global};
 pub(crate) fn begin<
     F: Fn(&Site, &Arcs, &Shares) -> Result<Option<Row>, AllocError>,
     G: Fn(&Arcs, &Decisions, &Shares) -> Option<u32>,
->(alloc: Global, search: &mut Search<'_, F, G>, start: &Best) -> Result<(), AllocError>
+>(alloc: Global, search: &mut Search<'_, F, G>, start: &Incumbent) -> Result<(), AllocError>
     requires running { IsRunning F.Fn G.Fn search.old }
-    requires known { IsKnown search.old.site start.now.layout start.now.stuck start.now.known }
+    requires begins { CanBegin search.old.site start.now }
     ensures running { IsRunning F.Fn G.Fn search.new }
     ensures parts { KeepsParts search.old search.new }
     ensures begins { OnOk result ((items : List Item) → Runs search.old.site search.old.arcs search.old.progress.budget (core items search.old)
-        (found (layout_of start.now.known start.now.layout)) (core items search.new)) }
+        (found (layout_of start.now)) (core items search.new)) }
 {
-    match start.known {
-        None => Ok(()),
-        Some(_) => {
-            let _ = search.step(alloc, Event::Found(&start.layout))?;
+    match start {
+        Incumbent::Part { .. } => Ok(()),
+        Incumbent::Known(first) => {
+            let _ = search.step(alloc, Event::Found(&first.layout))?;
             Ok(())
         }
     }
@@ -60,25 +62,25 @@ pub(crate) fn conclude<
     site: &Site,
     arcs: &Arcs,
     search: &mut Search<'_, F, G>,
-    start: Best,
+    start: Incumbent,
 ) -> Result<Plan, AllocError>
     requires arcs { AreArcs site.now arcs.now }
     requires running { IsRunning F.Fn G.Fn search.old }
     requires site { search.old.site ≡ site.now }
     requires arcs_of_site { search.old.arcs ≡ arcs.now }
-    requires known { IsKnown site.now start.layout start.stuck start.known }
-    requires ended { (items : List Item) × HasEnded site.now arcs.now search.old.progress.budget start.known (core items search.old) }
-    ensures { IfOk result (λ plan. (items : List Item) → HasEnded site.now arcs.now search.old.progress.budget start.known (core items search.old)
+    requires begins { CanBegin site.now start }
+    requires ended { (items : List Item) × HasEnded site.now arcs.now search.old.progress.budget start (core items search.old) }
+    ensures { IfOk result (λ plan. (items : List Item) → HasEnded site.now arcs.now search.old.progress.budget start (core items search.old)
         → (last : Core) × IsConcluded site.now arcs.now search.old.progress.budget (core items search.old) last plan.layout plan.claim) }
 {
     let Some(bound) = search.least() else {
-        return Ok(no_layout(start.layout));
+        return Ok(Plan {
+            layout: Layout::new(alloc)?,
+            claim: Claim::Infeasible,
+        });
     };
     let Some((known, _)) = search.best() else {
-        return Ok(Plan {
-            layout: start.layout,
-            claim: part_claim(bound, start.stuck),
-        });
+        return Ok(part_plan(bound, start));
     };
     let settled = settle_layout(alloc, site, arcs, known)?;
     let _ = search.step(alloc, Event::Found(&settled.layout))?;

@@ -11,15 +11,16 @@ ghost use Rattle.plan_search.specs.Found.{FindsPlan, WritesPart};
 
 use crate::branching::most_open;
 use crate::concluding::{begin, conclude};
+use crate::making::first_row;
 use crate::rounds::{work_all, write_rows};
-use crate::start::first_best;
+use crate::start::first_incumbent;
 use bound_shares::Shares;
 use bound_value::Decisions;
 use cable_definitions::claim::Claim;
 use cable_rows::Row;
 use cable_text::{Failed, Sink};
 use candidate_cables::Arcs;
-use cut_makers::connect_row;
+use crossing_index::Crossings;
 use layout_meaning::Layout;
 use search_core::Search;
 use site_model::Site;
@@ -95,7 +96,7 @@ fn search_with<
     ensures count { O.faults out.old ≤ O.faults out.new }
 {
     write_rows(search.pool(), 0, out)?;
-    let start = first_best(alloc, site, arcs)?;
+    let start = first_incumbent(alloc, site, arcs)?;
     begin(alloc, search, &start)?;
     work_all(alloc, search, lanes, out)?;
     Ok(conclude(alloc, site, arcs, search, start)?)
@@ -132,10 +133,13 @@ pub fn search<O: Sink>(
     ensures failed { result ≡ Err SearchFault.Write → Rose (O.faults out.old) (O.faults out.new) }
     ensures count { O.faults out.old ≤ O.faults out.new }
 {
+    let all_crossings = Crossings::new(alloc, site, arcs)?;
+    let crossings = &all_crossings;
     let make = move |site: &Site, arcs: &Arcs, shares: &Shares|
-        requires { AreShares site.now arcs.now shares.now }
+        requires shares { AreShares site.now arcs.now shares.now }
+        requires crossings { crossings.now ≡ record { site = site.now; arcs = arcs.now } }
         ensures { IfOk result (λ answer. IfSome answer (λ row. IsSoundRow site.now arcs.now (row_made row))) }
-    { connect_row(alloc, site, arcs, shares) };
+    { first_row(alloc, site, arcs, crossings, shares) };
     let name = |arcs: &Arcs, decisions: &Decisions, shares: &Shares|
         requires { AreBeside arcs.now decisions.now shares.now }
         ensures { IsFreeChoice decisions.now result }

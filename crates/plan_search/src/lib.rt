@@ -4,6 +4,7 @@
 mod branching;
 mod concluding;
 mod finding;
+mod making;
 mod outcome;
 mod rounds;
 mod start;

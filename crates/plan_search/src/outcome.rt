@@ -1,24 +1,11 @@
 //! What a search ends with.
 
-ghost use Rattle.std.specs.Prelude.{◌≡◌, ◌^◌, pos, ◌≤ℤ◌, ◌<ℤ◌, unsigned_abs, []};
-ghost use Rattle.plan_search.specs.Start.{IsClaimedOf};
+ghost use Rattle.std.specs.Prelude.{◌≡◌, ◌^◌, pos, ◌≤ℤ◌, ◌<ℤ◌, unsigned_abs};
+ghost use Rattle.plan_search.specs.Start.{IsClaimedOf, IsPart, IsPartPlan};
 
 use crate::finding::Plan;
+use crate::start::Incumbent;
 use cable_definitions::claim::Claim;
-use layout_meaning::Layout;
-
-/// The claim that there is no legal layout, with no cable.
-pub(crate) fn no_layout(layout: Layout) -> Plan
-    ensures layout { result.layout ≡ [] }
-    ensures claim { result.claim ≡ Claim.Infeasible }
-{
-    let mut none = layout;
-    none.clear();
-    Plan {
-        layout: none,
-        claim: Claim::Infeasible,
-    }
-}
 
 /// The claim of a part to which this turbine can't be joined. The bound is in cost units.
 pub(crate) fn part_claim(bound: i128, stuck: u32) -> Claim
@@ -29,6 +16,23 @@ pub(crate) fn part_claim(bound: i128, stuck: u32) -> Claim
     Claim::Partial {
         bound: bound as u64,
         stuck,
+    }
+}
+
+/// The part with which a search began that knows no layout, with its claim. The bound is in cost units.
+pub(crate) fn part_plan(bound: i128, start: Incumbent) -> Plan
+    requires part { IsPart start }
+    requires not_negative { pos 0 ≤ℤ bound }
+    requires small { bound <ℤ pos (2 ^ 64) }
+    ensures { IsPartPlan start (unsigned_abs bound) result.layout result.claim }
+{
+    match start {
+        Incumbent::Part { part, turbine } => Plan {
+            layout: part,
+            claim: part_claim(bound, turbine),
+        },
+        // A search that begins with a layout knows one.
+        Incumbent::Known(_) => unreachable!(),
     }
 }
 

@@ -3,7 +3,7 @@
 ghost use Rattle.std.specs.Prelude.{◌≡◌, IfOk};
 ghost use Rattle.cable_definitions.specs.Arcs.{AreArcs};
 ghost use Rattle.cable_definitions.specs.Layout.{IsLegal};
-ghost use Rattle.plan_search.specs.Start.{AreInOrder, IsKnown, IsIncumbent, IsSettledBest, BeatsStraight};
+ghost use Rattle.plan_search.specs.Start.{AreInOrder, CanBegin, IsIncumbent, IsSettledBest, BeatsStraight};
 
 use candidate_cables::Arcs;
 use layout_meaning::{Layout, Verdict, judge};
@@ -11,48 +11,44 @@ use site_model::Site;
 use start_layout::{Start, greedy, improve_layout};
 use std::alloc::{AllocError, Global};
 
-/// The layout to begin with and its cost; where no cost is known, a grown part and a turbine that can't be joined to it.
-#[derive(Drop)]
-pub(crate) struct Best {
-    pub(crate) layout: Layout,
-    pub(crate) known: Option<u64>,
-    pub(crate) stuck: u32,
-}
-
-/// A layout and its cost.
+/// A legal layout and its cost, which was judged once.
 #[derive(Drop)]
 pub(crate) struct Settled {
     pub(crate) layout: Layout,
     pub(crate) cost: u64,
 }
 
-/// The layout to begin with, settled and in ascending order of start, with its cost; or the part that was grown, where no layout was found.
+/// What a search begins with, in ascending order of start: a settled layout with its cost; or where none was found a grown part, and a turbine that can't be
+/// joined to it.
+#[derive(Drop)]
+pub(crate) enum Incumbent {
+    Known(Settled),
+    Part { part: Layout, turbine: u32 },
+}
+
+/// What to begin with: the layout that the greedy growth or the straight layout gives, settled; or the part that was grown, where neither gives one.
 ///
 /// # Errors
 ///
 /// `AllocError` where there is no memory.
-pub(crate) fn first_best(alloc: Global, site: &Site, arcs: &Arcs) -> Result<Best, AllocError>
+pub(crate) fn first_incumbent(
+    alloc: Global,
+    site: &Site,
+    arcs: &Arcs,
+) -> Result<Incumbent, AllocError>
     requires { AreArcs site.now arcs.now }
-    ensures known { IfOk result (λ best. IsKnown site.now best.layout best.stuck best.known) }
-    ensures straight { IfOk result (λ best. BeatsStraight site.now best.known) }
+    ensures begins { IfOk result (CanBegin site.now) }
+    ensures straight { IfOk result (BeatsStraight site.now) }
 {
     match greedy(alloc, site, arcs)? {
         Start::Stuck { part, turbine } => {
-            let mut layout = part;
-            layout.arrange();
-            Ok(Best {
-                layout,
-                known: None,
-                stuck: turbine,
-            })
+            let mut part = part;
+            part.arrange();
+            Ok(Incumbent::Part { part, turbine })
         }
         Start::Found(layout, _) => {
             let settled = settle_layout(alloc, site, arcs, &layout)?;
-            Ok(Best {
-                layout: settled.layout,
-                known: Some(settled.cost),
-                stuck: 0,
-            })
+            Ok(Incumbent::Known(settled))
         }
     }
 }
