@@ -1,8 +1,5 @@
 -- From how a command ends to what is promised of it.
-use Rattle.std.proofs.Common.{◌≡◌, ℕ, ◌≤◌, List, [], ◌∷◌, refl, sym, ap, ◌∙◌, subst, arith, ⊎_elim}
-use Rattle.std.specs.Prelude.{codes}
-use Rattle.std.specs.Fmt.{decimal}
-use Rattle.std.proofs.lemmas.Fmt.{decimal_injective}
+use Rattle.std.proofs.Common.{◌≡◌, ℕ, List, refl, sym, ◌∙◌, subst, ⊎_elim}
 use Rattle.cable_definitions.specs.declared.cable.Cable.{Cable}
 use Rattle.cable_definitions.specs.declared.claim.Cause.{Cause}
 use Rattle.cable_definitions.specs.declared.claim.Claim.{Claim}
@@ -24,11 +21,13 @@ use Rattle.document_laws.proofs.WholeRead.{behind_site, document_parts}
 use Rattle.run_definitions.specs.declared.ending.Ending.{Ending}
 use Rattle.run_definitions.specs.declared.ending.Ending.TheVariants.{Done, Usage, SiteRefused, Gap as EndsInGap, Partial as EndsOpen, Infeasible as EndsInfeasible, DocumentRefused, ReadFault, WriteFault, Memory}
 use Rattle.run_definitions.specs.Bytes.{IsSiteOf, IsFrontSite}
-use Rattle.run_definitions.specs.Words.{AsksFor, IsKnownCommand}
+use Rattle.run_definitions.specs.Words.{AsksFor}
 use Rattle.run_definitions.specs.Effect.{Effect, Held, Wrote, RanWell}
 use Rattle.run_definitions.specs.Plan.{IsPlan}
 use Rattle.run_definitions.specs.Yes.{IsReached, IsTrueYes}
-use Rattle.run_definitions.specs.Ends.{Promise, EndsBy, plan_promise, check_promise, site_promise, judge_promise, report_promise, PrintsPlanOf, IsChecked, IsJudgement, IsReport, CommandEnds}
+use Rattle.run_definitions.specs.Ends.{Promise, EndsBy, plan_promise, check_promise, site_promise, judge_promise, report_promise, drill_promise, NotUsed, WritesSummary, PrintsPlanOf, IsChecked, IsJudgement, IsReport, CommandEnds}
+use Rattle.cable_run.specs.Steps.{IsObeyed}
+use Rattle.cable_run.proofs.Asked.{one_command}
 
 -- where no stream failed, memory did not run out, and the input can't be refused, the work is done
 done_well : (promise : Promise) (input out note : Effect) (ending : Ending) → EndsBy promise input out note ending → RanWell input out note ending
@@ -46,16 +45,16 @@ done_well promise input out note WriteFault h r s d =
 done_well promise input out note Memory h r s d = absurd (r.memory_held refl)
 
 -- ---- plan
-pub promise_of : (n : ℕ) (bytes : List ℕ) (s : Site) (input out note : Effect) (ending : Ending) → EndsBy (plan_promise n input) input out note ending → Held input bytes → IsSiteOf bytes s
-    → RanWell input out note ending → PrintsPlanOf s n input out ending
-promise_of n bytes s input out note ending h b a r =
-    let did = done_well (plan_promise n input) input out note ending h r (λ code place fault. no_plan_fault bytes s code place a (fault bytes b)) (λ line cause none. none) in
+pub promise_of : (n lanes : ℕ) (bytes : List ℕ) (s : Site) (input out note : Effect) (ending : Ending) → EndsBy (plan_promise n lanes input) input out note ending → Held input bytes
+    → IsSiteOf bytes s → RanWell input out note ending → PrintsPlanOf s n lanes input out ending
+promise_of n lanes bytes s input out note ending h b a r =
+    let did = done_well (plan_promise n lanes input) input out note ending h r (λ code place fault. no_plan_fault bytes s code place a (fault bytes b)) (λ line cause none. none) in
     let printed = did.1 in
     let same : printed.site ≡ s = one_site bytes printed.site s (printed.read.read bytes b) a in
     record {
       printed = printed.printed;
       claim = did.0;
-      plan = subst (λ (u : Site). IsPlan u n printed.printed did.0) same printed.plan;
+      plan = subst (λ (u : Site). IsPlan u n lanes printed.printed did.0) same printed.plan;
       wrote = printed.wrote;
       ends = did.2;
       whole = printed.read.whole;
@@ -141,114 +140,32 @@ report_of bytes s claim input out note ending h b y r =
     let did = done_well (report_promise input) input out note ending h r (λ code place none. none) (λ line cause refused. yes-stands bytes s claim 1 line cause y (refused bytes b)) in
     (did.0, did.1)
 
+-- ---- drill
+pub summary_of : (k turbines n : ℕ) (input out note : Effect) (ending : Ending) → NotUsed input × EndsBy (drill_promise k turbines n) input out note ending → RanWell input out note ending
+    → NotUsed input × WritesSummary k turbines n out ending
+summary_of k turbines n input out note ending h r = (h.0, done_well (drill_promise k turbines n) input out note ending h.1 r (λ code place none. none) (λ line cause none. none))
+
 -- ---- words
-second_of : (a b c d : List ℕ) → a ∷ b ∷ [] ≡ c ∷ d ∷ [] → b ≡ d
-second_of a b c d e = cc
-
-one_of : (a b : List ℕ) → a ∷ [] ≡ b ∷ [] → a ≡ b
-one_of a b e = cc
-
-same_budget : (m n : ℕ) → m ≤ 50000 → n ≤ 50000 → codes "plan" ∷ decimal m ∷ [] ≡ codes "plan" ∷ decimal n ∷ [] → m ≡ n
-same_budget m n h k e = decimal_injective m n (omega arith) (omega arith) (second_of (codes "plan") (decimal m) (codes "plan") (decimal n) e)
-
--- the words ask for a command that is known
-pub known_of : (words : List (List ℕ)) (command : Command) → AsksFor words command → IsKnownCommand command
-known_of words (Plan m lanes) b = (b.0, b.1)
-known_of words Check b = tt
-known_of words SiteCommand b = tt
-known_of words Migrate b = b
-known_of words Judge b = tt
-known_of words Report b = tt
-known_of words Rings b = b
-known_of words Carry b = b
-known_of words (Drill k turbines m) b = b
-
-abbrev first_of : List (List ℕ) → ℕ
-first_of [] = 0
-first_of ([] ∷ ws) = 0
-first_of ((c ∷ cs) ∷ ws) = c
-
--- the first byte of a command's words
-abbrev letter : Command → ℕ
-letter (Plan m lanes) = 112
-letter Check = 99
-letter SiteCommand = 115
-letter Migrate = 0
-letter Judge = 106
-letter Report = 114
-letter Rings = 0
-letter Carry = 0
-letter (Drill k turbines m) = 0
-
-first_is : (words : List (List ℕ)) (command : Command) → AsksFor words command → first_of words ≡ letter command
-first_is words (Plan m lanes) b = ap first_of b.2
-first_is words Check b = ap first_of b
-first_is words SiteCommand b = ap first_of b
-first_is words Migrate b = absurd b
-first_is words Judge b = ap first_of b
-first_is words Report b = ap first_of b
-first_is words Rings b = absurd b
-first_is words Carry b = absurd b
-first_is words (Drill k turbines m) b = absurd b
+-- the words ask for a command that can be obeyed
+pub obeyed : (words : List (List ℕ)) (command : Command) → AsksFor words command → IsObeyed command
+obeyed words (Plan n lanes) b = (b.0, b.1)
+obeyed words Check b = tt
+obeyed words SiteCommand b = tt
+obeyed words Migrate b = b
+obeyed words Judge b = tt
+obeyed words Report b = tt
+obeyed words Rings b = b
+obeyed words Carry b = b
+obeyed words (Drill k turbines n) b = (b.1, b.2, b.3)
 
 -- words are at most one command, so a command ends as the words say
 pub ends_as : (words : List (List ℕ)) (command other : Command) (input out note : Effect) (ending : Ending) → AsksFor words command → AsksFor words other
     → CommandEnds command input out note ending → CommandEnds other input out note ending
-ends_as words (Plan m lanes) (Plan n others) input out note ending b e h =
-    let P : ℕ → Type 0 = λ k. EndsBy (plan_promise k input) input out note ending in
-    subst P (same_budget m n b.0.1 e.0.1 (sym b.2 ∙ e.2)) h
-ends_as words (Plan m lanes) Check input out note ending b e h = absurd (omega (arith, first_is words (Plan m lanes) b, first_is words Check e))
-ends_as words (Plan m lanes) SiteCommand input out note ending b e h = absurd (omega (arith, first_is words (Plan m lanes) b, first_is words SiteCommand e))
-ends_as words (Plan m lanes) Judge input out note ending b e h = absurd (omega (arith, first_is words (Plan m lanes) b, first_is words Judge e))
-ends_as words (Plan m lanes) Report input out note ending b e h = absurd (omega (arith, first_is words (Plan m lanes) b, first_is words Report e))
-ends_as words (Plan m lanes) Migrate input out note ending b e h = absurd e
-ends_as words (Plan m lanes) Rings input out note ending b e h = absurd e
-ends_as words (Plan m lanes) Carry input out note ending b e h = absurd e
-ends_as words (Plan m lanes) (Drill k turbines n) input out note ending b e h = absurd e
-ends_as words Check (Plan n others) input out note ending b e h = absurd (omega (arith, first_is words Check b, first_is words (Plan n others) e))
-ends_as words Check Check input out note ending b e h = h
-ends_as words Check SiteCommand input out note ending b e h = absurd (omega (arith, first_is words Check b, first_is words SiteCommand e))
-ends_as words Check Judge input out note ending b e h = absurd (omega (arith, first_is words Check b, first_is words Judge e))
-ends_as words Check Report input out note ending b e h = absurd (omega (arith, first_is words Check b, first_is words Report e))
-ends_as words Check Migrate input out note ending b e h = absurd e
-ends_as words Check Rings input out note ending b e h = absurd e
-ends_as words Check Carry input out note ending b e h = absurd e
-ends_as words Check (Drill k turbines n) input out note ending b e h = absurd e
-ends_as words SiteCommand (Plan n others) input out note ending b e h = absurd (omega (arith, first_is words SiteCommand b, first_is words (Plan n others) e))
-ends_as words SiteCommand Check input out note ending b e h = absurd (omega (arith, first_is words SiteCommand b, first_is words Check e))
-ends_as words SiteCommand SiteCommand input out note ending b e h = h
-ends_as words SiteCommand Judge input out note ending b e h = absurd (omega (arith, first_is words SiteCommand b, first_is words Judge e))
-ends_as words SiteCommand Report input out note ending b e h = absurd (omega (arith, first_is words SiteCommand b, first_is words Report e))
-ends_as words SiteCommand Migrate input out note ending b e h = absurd e
-ends_as words SiteCommand Rings input out note ending b e h = absurd e
-ends_as words SiteCommand Carry input out note ending b e h = absurd e
-ends_as words SiteCommand (Drill k turbines n) input out note ending b e h = absurd e
-ends_as words Judge (Plan n others) input out note ending b e h = absurd (omega (arith, first_is words Judge b, first_is words (Plan n others) e))
-ends_as words Judge Check input out note ending b e h = absurd (omega (arith, first_is words Judge b, first_is words Check e))
-ends_as words Judge SiteCommand input out note ending b e h = absurd (omega (arith, first_is words Judge b, first_is words SiteCommand e))
-ends_as words Judge Judge input out note ending b e h = h
-ends_as words Judge Report input out note ending b e h = absurd (omega (arith, first_is words Judge b, first_is words Report e))
-ends_as words Judge Migrate input out note ending b e h = absurd e
-ends_as words Judge Rings input out note ending b e h = absurd e
-ends_as words Judge Carry input out note ending b e h = absurd e
-ends_as words Judge (Drill k turbines n) input out note ending b e h = absurd e
-ends_as words Report (Plan n others) input out note ending b e h = absurd (omega (arith, first_is words Report b, first_is words (Plan n others) e))
-ends_as words Report Check input out note ending b e h = absurd (omega (arith, first_is words Report b, first_is words Check e))
-ends_as words Report SiteCommand input out note ending b e h = absurd (omega (arith, first_is words Report b, first_is words SiteCommand e))
-ends_as words Report Judge input out note ending b e h = absurd (omega (arith, first_is words Report b, first_is words Judge e))
-ends_as words Report Report input out note ending b e h = h
-ends_as words Report Migrate input out note ending b e h = absurd e
-ends_as words Report Rings input out note ending b e h = absurd e
-ends_as words Report Carry input out note ending b e h = absurd e
-ends_as words Report (Drill k turbines n) input out note ending b e h = absurd e
-ends_as words Migrate other input out note ending b e h = absurd b
-ends_as words Rings other input out note ending b e h = absurd b
-ends_as words Carry other input out note ending b e h = absurd b
-ends_as words (Drill k turbines m) other input out note ending b e h = absurd b
+ends_as words command other input out note ending b e h = subst (λ (c : Command). CommandEnds c input out note ending) (one_command words command other b e) h
 
 -- a command that is known never ends as words that are none
 pub not_usage : (command : Command) (input out note : Effect) → CommandEnds command input out note Usage → ⊥
-not_usage (Plan m lanes) input out note h = h
+not_usage (Plan n lanes) input out note h = h
 not_usage Check input out note h = h
 not_usage SiteCommand input out note h = h
 not_usage Judge input out note h = h
@@ -256,4 +173,4 @@ not_usage Report input out note h = h
 not_usage Migrate input out note h = h
 not_usage Rings input out note h = h
 not_usage Carry input out note h = h
-not_usage (Drill k turbines m) input out note h = h
+not_usage (Drill k turbines n) input out note h = h.1

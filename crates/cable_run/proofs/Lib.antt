@@ -1,5 +1,5 @@
--- words that no number in range spells
-pub mod Unread
+-- words, and the commands that they ask for
+pub mod Asked
 -- from how a command ends to what is promised of it
 pub mod Headlines
 -- notes whose push failed
@@ -18,3 +18,7 @@ pub mod Plans
 pub mod Sites
 -- documents that are accepted, and refusals of what is none
 pub mod Documents
+-- the summary line of a drill is what stands before the verdict, and the verdict line
+pub mod Summary
+-- the summary of what was found for a generated site
+pub mod Drills

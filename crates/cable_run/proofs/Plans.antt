@@ -79,8 +79,8 @@ cables_agree s cables (Partial bound stuck) a = cables_of_grown s cables a.grown
 cables_agree s cables Infeasible a = no_cables s cables a
 
 -- the cables that were found have their ends among the points
-pub cables_found : (s : Site) (arcs : List Arc) (n : ℕ) (before after : Option (List ℕ)) (cables : List Cable) (claim : Claim) → FindsPlan s arcs n 1 before after cables claim → All (EndsAtPoints s) cables
-cables_found s arcs n before after cables claim found = cables_agree s cables claim found.outcome.agrees.0
+pub cables_found : (s : Site) (arcs : List Arc) (n lanes : ℕ) (before after : Option (List ℕ)) (cables : List Cable) (claim : Claim) → FindsPlan s arcs n lanes before after cables claim → All (EndsAtPoints s) cables
+cables_found s arcs n lanes before after cables claim found = cables_agree s cables claim found.outcome.agrees.0
 
 claim_agrees : (s : Site) (cables : List Cable) (claim : Claim) → LayoutAgrees s cables claim → NamesPoint s claim
 claim_agrees s cables (Optimal cost) a = tt
@@ -89,8 +89,8 @@ claim_agrees s cables (Partial bound stuck) a = within-turbine s stuck a.turbine
 claim_agrees s cables Infeasible a = tt
 
 -- a turbine that the claim names is a point
-pub claim_found : (s : Site) (arcs : List Arc) (n : ℕ) (before after : Option (List ℕ)) (cables : List Cable) (claim : Claim) → FindsPlan s arcs n 1 before after cables claim → NamesPoint s claim
-claim_found s arcs n before after cables claim found = claim_agrees s cables claim found.outcome.agrees.0
+pub claim_found : (s : Site) (arcs : List Arc) (n lanes : ℕ) (before after : Option (List ℕ)) (cables : List Cable) (claim : Claim) → FindsPlan s arcs n lanes before after cables claim → NamesPoint s claim
+claim_found s arcs n lanes before after cables claim found = claim_agrees s cables claim found.outcome.agrees.0
 
 -- ---- costs
 -- a legal layout whose cables ascend costs less than 2 ^ 63
@@ -115,28 +115,28 @@ claim_in_range s arcs n kept cables Infeasible valid o = tt
 
 -- ---- where a plan stops early
 -- what stands before the items, and a first part of these
-begun : (input out : Effect) (s : Site) (n : ℕ) (arcs : List Arc) (items : List Item) (kept : ProofState) → IsRead input s → AreArcs s arcs → IsAccepted s arcs n items kept
-    → AppendsPrefix out.before out.after (head_text s n ++ concat (map item_lines items)) → PrintsPart n input out
-begun input out s n arcs items kept read are accepted part =
+begun : (input out : Effect) (s : Site) (n lanes : ℕ) (arcs : List Arc) (items : List Item) (kept : ProofState) → IsRead input s → AreArcs s arcs → IsAccepted s arcs n items kept
+    → AppendsPrefix out.before out.after (head_text s n ++ concat (map item_lines items)) → PrintsPart n lanes input out
+begun input out s n lanes arcs items kept read are accepted part =
     let started : IsPlanBegun s n (head_text s n ++ concat (map item_lines items)) =
     record { arcs = arcs; are_arcs = are; items = items; kept = kept; accepted = accepted; text_is = refl } in
     inr (s, head_text s n ++ concat (map item_lines items), read, inl started, part)
 
 -- a first part of what stands before the items
-pub head_part : (input out : Effect) (s : Site) (n : ℕ) (arcs : List Arc) → IsRead input s → AreArcs s arcs → AppendsPrefix out.before out.after (head_text s n) → PrintsPart n input out
-head_part input out s n arcs read are part = begun input out s n arcs [] empty_state read are refl (AppendsPrefix-front out.before out.after (head_text s n) [] part)
+pub head_part : (input out : Effect) (s : Site) (n lanes : ℕ) (arcs : List Arc) → IsRead input s → AreArcs s arcs → AppendsPrefix out.before out.after (head_text s n) → PrintsPart n lanes input out
+head_part input out s n lanes arcs read are part = begun input out s n lanes arcs [] empty_state read are refl (AppendsPrefix-front out.before out.after (head_text s n) [] part)
 
-pub items_part : (input out : Effect) (middle : Option (List ℕ)) (s : Site) (n : ℕ) (arcs : List Arc) → IsRead input s → AreArcs s arcs → Appends out.before middle (head_text s n)
-    → WritesPart s arcs n middle out.after → PrintsPart n input out
-items_part input out middle s n arcs read are first part =
-    begun input out s n arcs part.items part.kept read are part.accepted
+pub items_part : (input out : Effect) (middle : Option (List ℕ)) (s : Site) (n lanes : ℕ) (arcs : List Arc) → IsRead input s → AreArcs s arcs → Appends out.before middle (head_text s n)
+    → WritesPart s arcs n middle out.after → PrintsPart n lanes input out
+items_part input out middle s n lanes arcs read are first part =
+    begun input out s n lanes arcs part.items part.kept read are part.accepted
     (AppendsPrefix-then out.before middle out.after (head_text s n) (concat (map item_lines part.items)) first part.written)
 
 -- ---- plans
 -- what was found comes from a search
-comes : (s : Site) (arcs : List Arc) (n : ℕ) (before after : Option (List ℕ)) (cables : List Cable) (claim : Claim) → (found : FindsPlan s arcs n 1 before after cables claim)
-    → ComeFromSearch s arcs n 1 found.core.items cables claim
-comes s arcs n before after cables claim found = record { core = found.core; searched = found.searched; items_are = refl; known = λ has. known claim found.known has }
+comes : (s : Site) (arcs : List Arc) (n lanes : ℕ) (before after : Option (List ℕ)) (cables : List Cable) (claim : Claim) → (found : FindsPlan s arcs n lanes before after cables claim)
+    → ComeFromSearch s arcs n lanes found.core.items cables claim
+comes s arcs n lanes before after cables claim found = record { core = found.core; searched = found.searched; items_are = refl; known = λ has. known claim found.known has }
   where
     known : (c : Claim) → ((total : ℕ) → HasCost c total → found.core.known ≡ Some cables) → IsOfLayout c → found.core.known ≡ Some cables
     known (Optimal best) k has = k best refl
@@ -145,28 +145,30 @@ comes s arcs n before after cables claim found = record { core = found.core; sea
     known Infeasible k has = absurd has
 
 -- what was found is a plan
-plan_found : (input : Effect) (middle later : Option (List ℕ)) (s : Site) (n : ℕ) (arcs : List Arc) (cables : List Cable) (claim : Claim) → 1 ≤ n → n ≤ 50000 → IsRead input s → AreArcs s arcs
-    → (found : FindsPlan s arcs n 1 middle later cables claim) → IsPlan s n (document_text s n found.core.items cables claim) claim
-plan_found input middle later s n arcs cables claim least most read are found = record {
+plan_found : (middle later : Option (List ℕ)) (s : Site) (n lanes : ℕ) (arcs : List Arc) (cables : List Cable) (claim : Claim) → 1 ≤ n → n ≤ 50000 → IsValid s → AreArcs s arcs
+    → (found : FindsPlan s arcs n lanes middle later cables claim) → IsPlan s n lanes (document_text s n found.core.items cables claim) claim
+plan_found middle later s n lanes arcs cables claim least most valid are found = record {
   document = record {
     arcs = arcs;
     budget = n;
     items = found.core.items;
     cables = cables;
     kept = found.core.kept;
-    valid = read.valid;
+    valid = valid;
     are_arcs = are;
     is_budget = (least, most);
     text = refl;
     in_order = found.outcome.in_order;
     accepted = found.accepted;
-    in_range = claim_in_range s arcs n found.core.kept cables claim read.valid found.outcome;
+    in_range = claim_in_range s arcs n found.core.kept cables claim valid found.outcome;
     agrees = found.outcome.agrees;
   };
   budget_is = refl;
-  says = says-sound s arcs n found.core.kept cables claim (sound-accepted s arcs n found.core.items found.core.kept read.valid are found.accepted) found.outcome.agrees;
-  searched = comes s arcs n middle later cables claim found;
+  says = says-sound s arcs n found.core.kept cables claim (sound-accepted s arcs n found.core.items found.core.kept valid are found.accepted) found.outcome.agrees;
+  searched = comes s arcs n lanes middle later cables claim found;
   first_cables = found.floor;
+  in_trees = found.in_trees;
+  no_in_tree = found.no_in_tree;
   closed = found.outcome.closed;
   isolated = found.outcome.hopeless;
   settled = found.outcome.settled;
@@ -174,34 +176,40 @@ plan_found input middle later s n arcs cables claim least most read are found = 
   full = found.outcome.full;
 }
 
+-- it is over the arcs that were searched
+pub plan_with_arcs : (middle later : Option (List ℕ)) (s : Site) (n lanes : ℕ) (arcs : List Arc) (cables : List Cable) (claim : Claim) → 1 ≤ n → n ≤ 50000 → IsValid s → AreArcs s arcs
+    → (found : FindsPlan s arcs n lanes middle later cables claim) → (plan : IsPlan s n lanes (document_text s n found.core.items cables claim) claim) × (plan.document.arcs ≡ arcs)
+unfolding plan_found
+plan_with_arcs middle later s n lanes arcs cables claim least most valid are found = (plan_found middle later s n lanes arcs cables claim least most valid are found, refl)
+
 -- what stands before the items and these, and a first part of what stands behind them
-pub tail_part : (input out : Effect) (middle later : Option (List ℕ)) (s : Site) (n : ℕ) (arcs : List Arc) (cables : List Cable) (claim : Claim) → 1 ≤ n → n ≤ 50000 → IsRead input s → AreArcs s arcs
-    → Appends out.before middle (head_text s n) → FindsPlan s arcs n 1 middle later cables claim → AppendsPrefix later out.after (tail_text s cables claim) → PrintsPart n input out
-tail_part input out middle later s n arcs cables claim least most read are first found part =
+pub tail_part : (input out : Effect) (middle later : Option (List ℕ)) (s : Site) (n lanes : ℕ) (arcs : List Arc) (cables : List Cable) (claim : Claim) → 1 ≤ n → n ≤ 50000 → IsRead input s → AreArcs s arcs
+    → Appends out.before middle (head_text s n) → FindsPlan s arcs n lanes middle later cables claim → AppendsPrefix later out.after (tail_text s cables claim) → PrintsPart n lanes input out
+tail_part input out middle later s n lanes arcs cables claim least most read are first found part =
     let parts = AppendsPrefix-then out.before later out.after (head_text s n ++ concat (map item_lines found.core.items)) (tail_text s cables claim)
     (Appends-then out.before middle later (head_text s n) (concat (map item_lines found.core.items)) first found.written) part in
     let whole = subst (λ (text : List ℕ). AppendsPrefix out.before out.after text) (sym (document_parts s n found.core.items cables claim)) parts in
-    inr (s, document_text s n found.core.items cables claim, read, inr (claim, plan_found input middle later s n arcs cables claim least most read are found), whole)
+    inr (s, document_text s n found.core.items cables claim, read, inr (claim, plan_found middle later s n lanes arcs cables claim least most read.valid are found), whole)
 
 -- the whole text
-pub printed_whole : (input out : Effect) (middle later : Option (List ℕ)) (s : Site) (n : ℕ) (arcs : List Arc) (cables : List Cable) (claim : Claim) → 1 ≤ n → n ≤ 50000 → IsRead input s → AreArcs s arcs
-    → Appends out.before middle (head_text s n) → FindsPlan s arcs n 1 middle later cables claim → Appends later out.after (tail_text s cables claim) → PrintsPlan n input out claim
-printed_whole input out middle later s n arcs cables claim least most read are first found last =
+pub printed_whole : (input out : Effect) (middle later : Option (List ℕ)) (s : Site) (n lanes : ℕ) (arcs : List Arc) (cables : List Cable) (claim : Claim) → 1 ≤ n → n ≤ 50000 → IsRead input s → AreArcs s arcs
+    → Appends out.before middle (head_text s n) → FindsPlan s arcs n lanes middle later cables claim → Appends later out.after (tail_text s cables claim) → PrintsPlan n lanes input out claim
+printed_whole input out middle later s n lanes arcs cables claim least most read are first found last =
     let all = Appends-then out.before later out.after (head_text s n ++ concat (map item_lines found.core.items)) (tail_text s cables claim)
     (Appends-then out.before middle later (head_text s n) (concat (map item_lines found.core.items)) first found.written) last in
     record {
       site = s;
       printed = document_text s n found.core.items cables claim;
       read = read;
-      plan = plan_found input middle later s n arcs cables claim least most read are found;
+      plan = plan_found middle later s n lanes arcs cables claim least most read.valid are found;
       wrote = subst (λ (bytes : List ℕ). Appends out.before out.after bytes) (sym (document_parts s n found.core.items cables claim)) all;
     }
 
-search_ends : (n : ℕ) (input out : Effect) (fault : SearchFault) → (fault ≡ SearchWrite → Faulted out) → PrintsPart n input out → PlanGives n input out (Err (search_fault fault))
-search_ends n input out SearchWrite failed part = (failed refl, part)
-search_ends n input out SearchMemory failed part = part
+search_ends : (n lanes : ℕ) (input out : Effect) (fault : SearchFault) → (fault ≡ SearchWrite → Faulted out) → PrintsPart n lanes input out → PlanGives n lanes input out (Err (search_fault fault))
+search_ends n lanes input out SearchWrite failed part = (failed refl, part)
+search_ends n lanes input out SearchMemory failed part = part
 
 -- what the fault of a search gives
-pub search_fails : (n : ℕ) (input out : Effect) (fault : SearchFault) (answer : Fault) → answer ≡ search_fault fault → (fault ≡ SearchWrite → Faulted out) → PrintsPart n input out
-    → PlanGives n input out (Err answer)
-search_fails n input out fault answer is failed part = subst (λ (f : Fault). PlanGives n input out (Err f)) (sym is) (search_ends n input out fault failed part)
+pub search_fails : (n lanes : ℕ) (input out : Effect) (fault : SearchFault) (answer : Fault) → answer ≡ search_fault fault → (fault ≡ SearchWrite → Faulted out) → PrintsPart n lanes input out
+    → PlanGives n lanes input out (Err answer)
+search_fails n lanes input out fault answer is failed part = subst (λ (f : Fault). PlanGives n lanes input out (Err f)) (sym is) (search_ends n lanes input out fault failed part)

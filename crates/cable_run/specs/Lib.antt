@@ -4,3 +4,5 @@ pub mod Faults
 pub mod Noted
 -- what reading an input gives, and what the work of a command gives
 pub mod Steps
+-- the summary of a drill, part by part
+pub mod Summary

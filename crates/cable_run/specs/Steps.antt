@@ -1,10 +1,12 @@
 -- What reading an input gives, and what the work of a command gives.
-use Rattle.std.specs.Prelude.{◌≡◌, ℕ, List, [], All, IsTrue, Option, Some, Result, Ok, Err}
+use Rattle.std.specs.Prelude.{◌≡◌, ℕ, ◌≤◌, List, [], All, IsTrue, Option, Some, Result, Ok, Err}
 use Rattle.cable_definitions.specs.declared.cable.Arc.{Arc}
 use Rattle.cable_definitions.specs.declared.cable.Cable.{Cable}
 use Rattle.cable_definitions.specs.declared.claim.Cause.{Cause}
+use Rattle.cable_definitions.specs.declared.claim.Claim.{Claim}
 use Rattle.cable_definitions.specs.declared.command.Command.{Command}
-use Rattle.cable_definitions.specs.declared.command.Command.TheVariants.{Plan, Check, Site as SiteCommand, Judge, Report}
+use Rattle.cable_definitions.specs.declared.command.Command.TheVariants.{Plan, Check, Site as SiteCommand, Migrate, Judge, Report, Rings, Carry, Drill}
+use Rattle.cable_definitions.specs.Command.{IsBudget, IsLanes}
 use Rattle.cable_definitions.specs.declared.site.SiteCode.{SiteCode}
 use Rattle.cable_definitions.specs.Site.{Site}
 use Rattle.cable_definitions.specs.Refusal.{DocLine, Reader, reader_at, AtJudged, may_end, ReadsLines}
@@ -12,8 +14,8 @@ use Rattle.proof_text.specs.Cables.{HasNumbersOf}
 use Rattle.document_check.specs.declared.document.Accepted.{Accepted}
 use Rattle.run_definitions.specs.declared.ending.Ending.{Ending}
 use Rattle.run_definitions.specs.declared.ending.Ending.TheVariants.{Done, Gap, Partial, Infeasible}
-use Rattle.run_definitions.specs.Effect.{Effect, Faulted, Untouched}
-use Rattle.run_definitions.specs.Ends.{Promise, plan_promise, check_promise, site_promise, judge_promise, report_promise, IsRead, IsChecked, IsSiteWithLayout, IsRefusedSite, IsRefusedInput, IsRefusedInLines, IsRefusedLayout}
+use Rattle.run_definitions.specs.Effect.{Effect, Faulted, Untouched, WroteFirstPart}
+use Rattle.run_definitions.specs.Ends.{Promise, plan_promise, check_promise, site_promise, judge_promise, report_promise, IsRead, IsChecked, IsSiteWithLayout, IsRefusedSite, IsRefusedInput, IsRefusedInLines, IsRefusedLayout, IsDrilled, WritesSummary, NotUsed}
 use Rattle.cable_run.specs.declared.fault.Fault.{Fault}
 use Rattle.cable_run.specs.declared.fault.Fault.TheVariants.{OfSite, OfDocument, Read, Write, Memory}
 
@@ -73,8 +75,8 @@ GivesBy promise input out (Err Write) = Faulted out × promise.cut out
 GivesBy promise input out (Err Memory) = promise.short out
 
 -- what each command gives
-abbrev pub PlanGives : ℕ → Effect → Effect → Result Ending Fault → Type 0
-PlanGives n input out result = GivesBy (plan_promise n input) input out result
+abbrev pub PlanGives : ℕ → ℕ → Effect → Effect → Result Ending Fault → Type 0
+PlanGives n lanes input out result = GivesBy (plan_promise n lanes input) input out result
 
 abbrev pub CheckGives : Effect → Effect → Result Ending Fault → Type 0
 CheckGives input out result = GivesBy (check_promise input) input out result
@@ -88,11 +90,35 @@ JudgeGives input out result = GivesBy (judge_promise input) input out result
 abbrev pub ReportGives : Effect → Effect → Result Ending Fault → Type 0
 ReportGives input out result = GivesBy (report_promise input) input out result
 
+-- what a drill gives, which is given no input: the summary; or a first part of it where the output failed; or nothing where memory ran out
+abbrev pub DrillGives : ℕ → ℕ → ℕ → Effect → Result Ending Fault → Type 0
+DrillGives k turbines n out (Ok ending) = IsWorkDone ending × WritesSummary k turbines n out ending
+DrillGives k turbines n out (Err (OfSite code place)) = ⊥
+DrillGives k turbines n out (Err (OfDocument refusal)) = ⊥
+DrillGives k turbines n out (Err Read) = ⊥
+DrillGives k turbines n out (Err Write) = Faulted out × ((claim : Claim) × (text : List ℕ) × IsDrilled k turbines n claim text × WroteFirstPart out text)
+DrillGives k turbines n out (Err Memory) = Untouched out
+
+-- a command that can be obeyed: one that the program knows, with its numbers in their ranges
+abbrev pub IsObeyed : Command → Type 0
+IsObeyed (Plan n lanes) = IsBudget n × IsLanes lanes
+IsObeyed Check = Unit {0}
+IsObeyed SiteCommand = Unit {0}
+IsObeyed Migrate = ⊥
+IsObeyed Judge = Unit {0}
+IsObeyed Report = Unit {0}
+IsObeyed Rings = ⊥
+IsObeyed Carry = ⊥
+IsObeyed (Drill k turbines n) = (1 ≤ turbines) × (turbines ≤ 200) × IsBudget n
+
 -- what a command gives that the program knows
 abbrev pub CommandGives : Command → Effect → Effect → Result Ending Fault → Type 0
-CommandGives (Plan n lanes) input out result = PlanGives n input out result
+CommandGives (Plan n lanes) input out result = PlanGives n lanes input out result
 CommandGives Check input out result = CheckGives input out result
 CommandGives SiteCommand input out result = SiteGives input out result
+CommandGives Migrate input out result = ⊥
 CommandGives Judge input out result = JudgeGives input out result
 CommandGives Report input out result = ReportGives input out result
-CommandGives command input out result = ⊥
+CommandGives Rings input out result = ⊥
+CommandGives Carry input out result = ⊥
+CommandGives (Drill k turbines n) input out result = NotUsed input × DrillGives k turbines n out result

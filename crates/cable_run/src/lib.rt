@@ -4,6 +4,7 @@
 
 mod check;
 mod document;
+mod drill;
 mod fault;
 mod judge;
 mod layout;

@@ -21,21 +21,24 @@ use site_model::Site;
 use site_text::write_site;
 use std::alloc::Global;
 
-/// Reads a site to the end of the input, and prints the document of its plan.
+/// Reads a site to the end of the input, and prints the document of its plan over so many lanes.
 pub(crate) fn plan<S: Source, O: Sink>(
     alloc: Global,
     budget: u32,
+    lanes: u32,
     input: &mut S,
     out: &mut O,
 ) -> Result<Ending, Fault>
     requires some { 1 ≤ budget }
     requires most { budget ≤ 50000 }
-    ensures { PlanGives budget (effect S.left S.faults input.old input.new) (effect O.taken O.faults out.old out.new) result }
+    requires some_lanes { 1 ≤ lanes }
+    requires most_lanes { lanes ≤ 16 }
+    ensures { PlanGives budget lanes (effect S.left S.faults input.old input.new) (effect O.taken O.faults out.old out.new) result }
 {
     let site = read_site(alloc, input)?;
     let arcs = Arcs::new(alloc, &site)?;
     write_head(&site, budget, out)?;
-    let plan = search(alloc, &site, &arcs, budget, 1, out)?;
+    let plan = search(alloc, &site, &arcs, budget, lanes, out)?;
     write_tail(&site, &plan, out)?;
     Ok(ending_of(plan.claim))
 }
@@ -61,7 +64,7 @@ fn write_tail<O: Sink>(site: &Site, plan: &Plan, out: &mut O) -> Result<(), Fail
 }
 
 /// How a plan ends that was printed with this claim.
-fn ending_of(claim: Claim) -> Ending
+pub(crate) fn ending_of(claim: Claim) -> Ending
     ensures { EndsWith result claim }
 {
     match claim {

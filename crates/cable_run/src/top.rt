@@ -12,12 +12,13 @@ ghost use Rattle.cable_definitions.specs.Refusal.{IsSiteWithCables};
 ghost use Rattle.cable_definitions.specs.Answers.{yes_line};
 ghost use Rattle.run_definitions.specs.Bytes.{IsSiteOf, IsFrontSite};
 ghost use Rattle.run_definitions.specs.Effect.{effect, Wrote, RanWell};
-ghost use Rattle.run_definitions.specs.Words.{texts, AsksFor, IsKnownCommand, IsNoCommand};
+ghost use Rattle.run_definitions.specs.Words.{texts, AsksFor, IsNoCommand};
 ghost use Rattle.run_definitions.specs.Yes.{IsTrueYes};
-ghost use Rattle.run_definitions.specs.Ends.{UsageEnds, CommandEnds, PrintsPlanOf, IsJudgement, IsReport};
-ghost use Rattle.cable_run.specs.Steps.{CommandGives};
+ghost use Rattle.run_definitions.specs.Ends.{UsageEnds, CommandEnds, PrintsPlanOf, IsJudgement, IsReport, NotUsed, WritesSummary};
+ghost use Rattle.cable_run.specs.Steps.{IsObeyed, CommandGives};
 
 use crate::check::check;
+use crate::drill::drill;
 use crate::fault::Fault;
 use crate::judge::judge;
 use crate::notes::{end_of, refuse_words};
@@ -33,17 +34,22 @@ use std::alloc::Global;
 /// Does what the words ask for: reads `input`, writes the answer to `out`, and notes a refusal or a
 /// fault to `note`, one line.
 ///
-/// - `plan N` reads a site, in lines or in JSON, to the end of the input, and prints a document, with a
-///   proof that is made in at most N works: the cheapest legal layout with its cost, or that there is
-///   none (`Done`, `Infeasible`); or, where N works didn't suffice, the best layout that was found, and a
-///   bound below its cost (`Gap`), or a part of a layout, a turbine that can't be joined to it, and a
-///   bound (`Partial`). `SiteRefused` exactly where the input is no site.
+/// - `plan N` or `plan N LANES` reads a site, in lines or in JSON, to the end of the input, and prints a
+///   document, with a proof that is made in at most N works: the cheapest legal layout with its cost, or
+///   that there is none (`Done`, `Infeasible`); or, where N works didn't suffice, the best layout that was
+///   found, and a bound below its cost (`Gap`), or a part of a layout, a turbine that can't be joined to it,
+///   and a bound (`Partial`). `SiteRefused` exactly where the input is no site. LANES says how many nodes
+///   are taken in each round before they are worked, 1 where it isn't given; the same words and the same
+///   input give the same bytes.
 /// - `check` reads a document to its end, and says yes exactly where it is accepted, which alone implies
 ///   its claim (`Done`; else `DocumentRefused`, with the first line at which a cause holds).
 /// - `site` reads a site, in lines or in JSON, and writes its lines (`Done`, `SiteRefused`).
 /// - `judge` reads a site in lines and a layout, and writes whether it is legal, with its cost, or the
 ///   first rule that it breaks (`Done`, `SiteRefused`, `DocumentRefused`).
 /// - `report` reads a document as `check` does, and then writes its report (`Done`, `DocumentRefused`).
+/// - `drill K TURBINES N` reads nothing. It generates a site from the number K with so many turbines, plans
+///   it as `plan N` does, and writes one line: its words, how many candidate arcs the site has, and the
+///   verdict (`Done`, `Infeasible`, `Gap`, `Partial`). The same words give the same line.
 /// - Other words are no command: `Usage`.
 ///
 /// `ReadFault` and `WriteFault` come only where a count of faults rose in the call. `Memory` is free.
@@ -61,15 +67,16 @@ pub fn run<S: Source, O: Sink, E: Sink>(
     ensures bound { (bytes : List ℕ) → AsksFor (texts words.now) AnyCommand.Check → S.left input.old ≡ Some bytes
         → result ≡ Ending.Done → IsTrueYes bytes (effect O.taken O.faults out.old out.new) }
 
-    // For every site and every budget, `plan` prints a document that `check` accepts: its layout is legal at
-    // its cost, settled, and costs no more than the straight layout; no legal layout costs less than its
-    // bound, which is at least the sum of the turbines' cheapest first cables; infeasible is printed only
-    // where there is no legal layout; and a gap or a part only where the budget was used up and wasn't
-    // enough; unless a stream failed or memory ran out.
-    ensures headline { (n : ℕ) (bytes : List ℕ) (s : Site) → AsksFor (texts words.now) (AnyCommand.Plan n 1) → S.left input.old ≡ Some bytes
+    // For every site, every budget and every number of lanes, `plan` prints a document that `check` accepts:
+    // its layout is legal at its cost, settled, and costs no more than the straight layout; no legal layout
+    // costs less than its bound, which is at least the sum of the turbines' cheapest first cables, and on a
+    // site without bends at least the cost of the cheapest in-tree; infeasible is printed only where there is
+    // no legal layout; and a gap or a part only where the budget was used up and wasn't enough; unless a
+    // stream failed or memory ran out.
+    ensures headline { (n lanes : ℕ) (bytes : List ℕ) (s : Site) → AsksFor (texts words.now) (AnyCommand.Plan n lanes) → S.left input.old ≡ Some bytes
         → IsSiteOf bytes s
         → RanWell (effect S.left S.faults input.old input.new) (effect O.taken O.faults out.old out.new) (effect E.taken E.faults note.old note.new) result
-        → PrintsPlanOf s n (effect S.left S.faults input.old input.new) (effect O.taken O.faults out.old out.new) result }
+        → PrintsPlanOf s n lanes (effect S.left S.faults input.old input.new) (effect O.taken O.faults out.old out.new) result }
 
     // `check` says yes to each document that is accepted, and then its claim is true.
     ensures yes { (bytes : List ℕ) (s : Site) (claim : Claim) → AsksFor (texts words.now) AnyCommand.Check → S.left input.old ≡ Some bytes
@@ -95,6 +102,12 @@ pub fn run<S: Source, O: Sink, E: Sink>(
         → RanWell (effect S.left S.faults input.old input.new) (effect O.taken O.faults out.old out.new) (effect E.taken E.faults note.old note.new) result
         → (result ≡ Ending.Done) × ((text : List ℕ) × IsReport (effect S.left S.faults input.old input.new) text × Wrote (effect O.taken O.faults out.old out.new) text) }
 
+    // For every number, every number of turbines and every budget, `drill` writes the summary of a plan of the
+    // generated site, and reads nothing, unless a stream failed or memory ran out.
+    ensures drill { (k turbines n : ℕ) → AsksFor (texts words.now) (AnyCommand.Drill k turbines n)
+        → RanWell (effect S.left S.faults input.old input.new) (effect O.taken O.faults out.old out.new) (effect E.taken E.faults note.old note.new) result
+        → NotUsed (effect S.left S.faults input.old input.new) × WritesSummary k turbines n (effect O.taken O.faults out.old out.new) result }
+
     // How each command ends, case by case.
     ensures ends { (command : AnyCommand) → AsksFor (texts words.now) command → CommandEnds command
         (effect S.left S.faults input.old input.new) (effect O.taken O.faults out.old out.new) (effect E.taken E.faults note.old note.new) result }
@@ -117,15 +130,20 @@ fn obey<S: Source, O: Sink>(
     input: &mut S,
     out: &mut O,
 ) -> Result<Ending, Fault>
-    requires { IsKnownCommand command }
+    requires { IsObeyed command }
     ensures { CommandGives command (effect S.left S.faults input.old input.new) (effect O.taken O.faults out.old out.new) result }
 {
     match command {
-        Command::Plan { budget, lanes: _ } => plan(alloc, budget, input, out),
+        Command::Plan { budget, lanes } => plan(alloc, budget, lanes, input, out),
         Command::Check => check(alloc, input, out),
         Command::Site => site(alloc, input, out),
         Command::Judge => judge(alloc, input, out),
         Command::Report => report(alloc, input, out),
-        _ => unreachable!(),
+        Command::Drill {
+            k,
+            turbines,
+            budget,
+        } => drill(alloc, k, turbines, budget, out),
+        Command::Migrate | Command::Rings | Command::Carry => unreachable!(),
     }
 }

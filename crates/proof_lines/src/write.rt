@@ -96,12 +96,17 @@ pub fn write_claim<O: Sink>(site: &Site, claim: Claim, out: &mut O) -> Result<()
     ensures { Writes result (O.taken out.old) (O.taken out.new) (O.faults out.old)
         (O.faults out.new) (claim_line site.now claim ++ line (codes "end" ∷ codes "document" ∷ [])) }
 {
-    push_claim(site, claim, out)?;
+    write_verdict(site, claim, out)?;
     push_line(b"end", &[Field::Word(b"document")], out)
 }
 
-/// Appends the verdict line of a claim.
-fn push_claim<O: Sink>(site: &Site, claim: Claim, out: &mut O) -> Result<(), Failed>
+/// Appends the verdict line of a claim: its cost and its bound in cost units, or the turbine that is stuck.
+///
+/// # Errors
+///
+/// `Failed` only where the count of `out` rose or stands at its last value. Some first part of the
+/// line was appended then.
+pub fn write_verdict<O: Sink>(site: &Site, claim: Claim, out: &mut O) -> Result<(), Failed>
     requires { NamesPoint site.now claim }
     ensures { Writes result (O.taken out.old) (O.taken out.new) (O.faults out.old)
         (O.faults out.new) (claim_line site.now claim) }

@@ -1,12 +1,12 @@
 -- How each command may end, and what it leaves of its streams.
-use Rattle.std.specs.Prelude.{◌≡◌, ℕ, ◌⊎◌, List, Bool}
+use Rattle.std.specs.Prelude.{◌≡◌, ℕ, ◌⊎◌, List, length, Bool}
 use Rattle.cable_definitions.specs.declared.cable.Cable.{Cable}
 use Rattle.cable_definitions.specs.declared.cable.Rule.{Rule}
 use Rattle.cable_definitions.specs.declared.claim.Cause.{Cause}
 use Rattle.cable_definitions.specs.declared.claim.Claim.{Claim}
 use Rattle.cable_definitions.specs.declared.claim.Claim.TheVariants.{Optimal, Gap, Partial, Infeasible}
 use Rattle.cable_definitions.specs.declared.command.Command.{Command}
-use Rattle.cable_definitions.specs.declared.command.Command.TheVariants.{Plan, Check, Site as SiteCommand, Judge, Report}
+use Rattle.cable_definitions.specs.declared.command.Command.TheVariants.{Plan, Check, Site as SiteCommand, Migrate, Judge, Report, Rings, Carry, Drill}
 use Rattle.cable_definitions.specs.declared.site.SiteCode.{SiteCode}
 use Rattle.cable_definitions.specs.Site.{Site, IsValid}
 use Rattle.cable_definitions.specs.Layout.{IsLegal, IsFirstBroken, cost}
@@ -16,6 +16,7 @@ use Rattle.cable_definitions.specs.Items.{IsLineFault}
 use Rattle.cable_definitions.specs.Document.{IsAcceptedDocument}
 use Rattle.cable_definitions.specs.Refusal.{IsRefused, IsSiteWithCables, IsJudgeRefused}
 use Rattle.cable_definitions.specs.Report.{report_text}
+use Rattle.cable_definitions.specs.Drill.{IsDrillSite, drill_line}
 use Rattle.cable_definitions.specs.Answers.{usage_note, site_note, document_note, read_fault_note, write_fault_note, memory_note, yes_line, legal_line, broken_line}
 use Rattle.cable_text.specs.Stream.{IsAtEnd}
 use Rattle.run_definitions.specs.declared.ending.Ending.{Ending}
@@ -88,18 +89,18 @@ pub record IsRead (input : Effect) (s : Site) : Type 0 where
   pub whole : IsAtEnd input.after
 
 -- a plan of the site that was read was printed with this claim
-pub record PrintsPlan (n : ℕ) (input out : Effect) (claim : Claim) : Type 0 where
+pub record PrintsPlan (n lanes : ℕ) (input out : Effect) (claim : Claim) : Type 0 where
   pub site : Site
   pub printed : List ℕ
   pub read : IsRead input site
-  pub plan : IsPlan site n printed claim
+  pub plan : IsPlan site n lanes printed claim
   pub wrote : Wrote out printed
 
 -- Nothing was printed; or a first part of the lines of the site that was read, the budget and accepted items; or a first part of a plan of that site.
-abbrev pub PrintsPart : ℕ → Effect → Effect → Type 0
-PrintsPart n input out =
+abbrev pub PrintsPart : ℕ → ℕ → Effect → Effect → Type 0
+PrintsPart n lanes input out =
     Untouched out
-    ⊎ ((s : Site) × (text : List ℕ) × IsRead input s × (IsPlanBegun s n text ⊎ ((claim : Claim) × IsPlan s n text claim)) × WroteFirstPart out text)
+    ⊎ ((s : Site) × (text : List ℕ) × IsRead input s × (IsPlanBegun s n text ⊎ ((claim : Claim) × IsPlan s n lanes text claim)) × WroteFirstPart out text)
 
 -- the claim that an ending stands for
 abbrev pub EndsWith : Ending → Claim → Type 0
@@ -113,21 +114,21 @@ EndsWith ending claim = ⊥
 abbrev pub IsRefusedSite : Effect → SiteCode → ℕ → Type 0
 IsRefusedSite input code place = (bytes : List ℕ) → Held input bytes → IsPlanFault bytes code place
 
--- `plan n` prints a plan, and ends as its claim says
-abbrev pub plan_promise : ℕ → Effect → Promise
-plan_promise n input = record {
-  does = λ ending out. (claim : Claim) × PrintsPlan n input out claim × EndsWith ending claim;
-  cut = PrintsPart n input;
-  short = PrintsPart n input;
+-- `plan n lanes` prints a plan, and ends as its claim says
+abbrev pub plan_promise : ℕ → ℕ → Effect → Promise
+plan_promise n lanes input = record {
+  does = λ ending out. (claim : Claim) × PrintsPlan n lanes input out claim × EndsWith ending claim;
+  cut = PrintsPart n lanes input;
+  short = PrintsPart n lanes input;
   no_site = IsRefusedSite input;
   no_document = λ line cause. ⊥;
 }
 
 -- a plan of this site was printed; the call ended as its claim says, and read the input to its end
-pub record PrintsPlanOf (s : Site) (n : ℕ) (input out : Effect) (ending : Ending) : Type 0 where
+pub record PrintsPlanOf (s : Site) (n lanes : ℕ) (input out : Effect) (ending : Ending) : Type 0 where
   pub printed : List ℕ
   pub claim : Claim
-  pub plan : IsPlan s n printed claim
+  pub plan : IsPlan s n lanes printed claim
   pub wrote : Wrote out printed
   pub ends : EndsWith ending claim
   pub whole : IsAtEnd input.after
@@ -220,12 +221,44 @@ IsReport input text = (s : Site) × (claim : Claim) × (checked : IsChecked inpu
 abbrev pub report_promise : Effect → Promise
 report_promise input = answer_promise (IsReport input) (λ code place. ⊥) (IsRefusedInput input)
 
+-- ---- drill
+-- The summary of the site that is generated from the number k with so many turbines: there is a plan of it with the budget n, over one lane, whose
+-- claim is the one in the summary.
+pub record IsDrilled (k turbines n : ℕ) (claim : Claim) (text : List ℕ) : Type 0 where
+  pub site : Site
+  pub valid : IsValid site
+  pub generated : IsDrillSite k turbines site
+  pub printed : List ℕ
+  pub plan : IsPlan site n 1 printed claim
+  pub text_is : text ≡ drill_line site k turbines n (length plan.document.arcs) claim
+
+-- such a summary was written, and the call ended as its claim says
+abbrev pub WritesSummary : ℕ → ℕ → ℕ → Effect → Ending → Type 0
+WritesSummary k turbines n out ending = (claim : Claim) × (text : List ℕ) × IsDrilled k turbines n claim text × Wrote out text × EndsWith ending claim
+
+-- `drill` writes the summary of a generated site, and ends as its claim says
+abbrev pub drill_promise : ℕ → ℕ → ℕ → Promise
+drill_promise k turbines n = record {
+  does = λ ending out. WritesSummary k turbines n out ending;
+  cut = λ out. (claim : Claim) × (text : List ℕ) × IsDrilled k turbines n claim text × WroteFirstPart out text;
+  short = Untouched;
+  no_site = λ code place. ⊥;
+  no_document = λ line cause. ⊥;
+}
+
+-- the call left a stream and its count of faults as they were
+abbrev pub NotUsed : Effect → Type 0
+NotUsed e = Untouched e × (e.faults_after ≡ e.faults_before)
+
 -- ---- commands
 -- how a command ends that the program knows
 abbrev pub CommandEnds : Command → Effect → Effect → Effect → Ending → Type 0
-CommandEnds (Plan n lanes) input out note ending = EndsBy (plan_promise n input) input out note ending
+CommandEnds (Plan n lanes) input out note ending = EndsBy (plan_promise n lanes input) input out note ending
 CommandEnds Check input out note ending = EndsBy (check_promise input) input out note ending
 CommandEnds SiteCommand input out note ending = EndsBy (site_promise input) input out note ending
 CommandEnds Judge input out note ending = EndsBy (judge_promise input) input out note ending
 CommandEnds Report input out note ending = EndsBy (report_promise input) input out note ending
-CommandEnds command input out note ending = ⊥
+CommandEnds Migrate input out note ending = ⊥
+CommandEnds Rings input out note ending = ⊥
+CommandEnds Carry input out note ending = ⊥
+CommandEnds (Drill k turbines n) input out note ending = NotUsed input × EndsBy (drill_promise k turbines n) input out note ending

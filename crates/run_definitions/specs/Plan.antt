@@ -11,6 +11,7 @@ use Rattle.cable_definitions.specs.Arcs.{AreArcs, IsCandidate, kind_of, is_turbi
 use Rattle.cable_definitions.specs.Layout.{IsLegal, cost}
 use Rattle.cable_definitions.specs.Part.{IsSettled, IsStraight}
 use Rattle.cable_definitions.specs.Budget.{IsNearest, enough_budget}
+use Rattle.cable_definitions.specs.InTree.{HasNoBends, IsInTree, IsFloor}
 use Rattle.cable_definitions.specs.Tree.{WasFull, Node, Item, ProofState, node_of, IsAccepted, Says}
 use Rattle.cable_definitions.specs.Text.{line, site_lines, item_lines}
 use Rattle.cable_definitions.specs.Document.{IsAcceptedDocument}
@@ -49,24 +50,39 @@ IsAtLeastFirstCables s (Gap best bound) = (nearest : ℕ) → IsNearest s neares
 IsAtLeastFirstCables s (Partial bound stuck) = (nearest : ℕ) → IsNearest s nearest → nearest ≤ bound
 IsAtLeastFirstCables s Infeasible = Unit {0}
 
+-- the bound of the claim is at least the cost of the cheapest in-tree, where there is one
+abbrev pub IsAtLeastInTrees : Site → Claim → Type 0
+IsAtLeastInTrees s (Optimal best) = (least : ℕ) → IsFloor s least → least ≤ best
+IsAtLeastInTrees s (Gap best bound) = (least : ℕ) → IsFloor s least → least ≤ bound
+IsAtLeastInTrees s (Partial bound stuck) = (least : ℕ) → IsFloor s least → least ≤ bound
+IsAtLeastInTrees s Infeasible = Unit {0}
+
+-- the site has no in-tree
+abbrev pub HasNoInTree : Site → Type 0
+HasNoInTree s = (tree : List Cable) → ¬ (IsInTree s tree)
+
 -- ---- plans
--- What is so of the plan of the site s with the budget n that was printed with this claim:
+-- What is so of the plan of the site s with the budget n, over so many lanes, that was printed with this claim:
 --   document             it is a document of that site that `check` accepts, so its layout is legal at its cost;
 --   budget_is            its budget is n;
---   searched             its items, and its layout where it has a cost, are those with which a search in rounds of one lane ends;
+--   searched             its items, and its layout where it has a cost, are those with which a search in rounds over the lanes ends;
 --   says                 what the claim says of all legal layouts is true;
 --   first_cables         its bound is at least the sum of the turbines' cheapest first cables;
+--   in_trees             on a site without bends its bound is at least the cost of the cheapest in-tree;
+--   no_in_tree           on a site without bends that has no in-tree, the claim is that there is no layout;
 --   closed               where n is enough, the claim is that its layout is the cheapest, or that there is none;
 --   isolated             where no candidate arc leads out of some turbine, the claim is that there is no layout;
 --   settled              a layout with a cost is settled: moving the end of one cable makes it no cheaper;
 --   straight             where the straight layout is legal, the claim is of a layout that costs no more;
 --   full                 the claim is of a layout that costs no more than that of any full node.
-pub record IsPlan (s : Site) (n : ℕ) (printed : List ℕ) (claim : Claim) : Type 0 where
+pub record IsPlan (s : Site) (n lanes : ℕ) (printed : List ℕ) (claim : Claim) : Type 0 where
   pub document : IsAcceptedDocument printed s claim
   pub budget_is : document.budget ≡ n
-  pub searched : ComeFromSearch s document.arcs n 1 document.items document.cables claim
+  pub searched : ComeFromSearch s document.arcs n lanes document.items document.cables claim
   pub says : Says s claim
   pub first_cables : IsAtLeastFirstCables s claim
+  pub in_trees : HasNoBends s → IsAtLeastInTrees s claim
+  pub no_in_tree : HasNoBends s → HasNoInTree s → claim ≡ Infeasible
   pub closed : enough_budget document.arcs ≤ n → IsFinal claim
   pub isolated : HasIsolatedTurbine s → claim ≡ Infeasible
   pub settled : IsSettledFor s document.cables claim

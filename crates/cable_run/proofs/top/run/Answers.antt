@@ -1,12 +1,12 @@
-use Rattle.cable_definitions.specs.declared.command.Command.TheVariants.{Plan, Check, Site as SiteCommand, Judge, Report}
+use Rattle.cable_definitions.specs.declared.command.Command.TheVariants.{Plan, Check, Site as SiteCommand, Judge, Report, Drill}
 use Rattle.run_definitions.specs.Effect.{effect}
 use Rattle.run_definitions.specs.Words.{texts}
 use Rattle.cable_run.proofs.Endings.{command_ends}
-use Rattle.cable_run.proofs.Headlines.{promise_of, bound_of, yes_of, lines_of, judgement_of, report_of, ends_as}
+use Rattle.cable_run.proofs.Headlines.{promise_of, bound_of, yes_of, lines_of, judgement_of, report_of, summary_of, ends_as}
 use Rattle.cable_run.proofs.top.run.Goals as goal
 
 pub returns-in-None-clause-headline : goal.returns-in-None-clause-headline
-returns-in-None-clause-headline g c = λ n bytes s built told site well. absurd (c.in-None.ensures.none (Plan n 1) built)
+returns-in-None-clause-headline g c = λ n lanes bytes s built told site well. absurd (c.in-None.ensures.none (Plan n lanes) built)
 
 pub returns-in-None-clause-yes : goal.returns-in-None-clause-yes
 returns-in-None-clause-yes g c = λ bytes s claim built told yes well. absurd (c.in-None.ensures.none Check built)
@@ -19,6 +19,9 @@ returns-in-None-clause-judgement g c = λ bytes s cables built told judged well.
 
 pub returns-in-None-clause-report : goal.returns-in-None-clause-report
 returns-in-None-clause-report g c = λ bytes s claim built told yes well. absurd (c.in-None.ensures.none Report built)
+
+pub returns-in-None-clause-drill : goal.returns-in-None-clause-drill
+returns-in-None-clause-drill g c = λ k turbines n built well. absurd (c.in-None.ensures.none (Drill k turbines n) built)
 
 pub returns-in-None-clause-bound : goal.returns-in-None-clause-bound
 returns-in-None-clause-bound g c = λ bytes built told done. absurd (c.in-None.ensures.none Check built)
@@ -35,7 +38,7 @@ pub returns-in-Some-clause-bound : goal.returns-in-Some-clause-bound
 returns-in-Some-clause-bound g c = λ bytes built told done. bound_of bytes _ _ _ _ (returns-in-Some-clause-ends g c Check built) told done
 
 pub returns-in-Some-clause-headline : goal.returns-in-Some-clause-headline
-returns-in-Some-clause-headline g c = λ n bytes s built told site well. promise_of n bytes s _ _ _ _ (returns-in-Some-clause-ends g c (Plan n 1) built) told site well
+returns-in-Some-clause-headline g c = λ n lanes bytes s built told site well. promise_of n lanes bytes s _ _ _ _ (returns-in-Some-clause-ends g c (Plan n lanes) built) told site well
 
 pub returns-in-Some-clause-yes : goal.returns-in-Some-clause-yes
 returns-in-Some-clause-yes g c = λ bytes s claim built told yes well. yes_of bytes s claim _ _ _ _ (returns-in-Some-clause-ends g c Check built) told yes well
@@ -48,3 +51,6 @@ returns-in-Some-clause-judgement g c = λ bytes s cables built told judged well.
 
 pub returns-in-Some-clause-report : goal.returns-in-Some-clause-report
 returns-in-Some-clause-report g c = λ bytes s claim built told yes well. report_of bytes s claim _ _ _ _ (returns-in-Some-clause-ends g c Report built) told yes well
+
+pub returns-in-Some-clause-drill : goal.returns-in-Some-clause-drill
+returns-in-Some-clause-drill g c = λ k turbines n built well. summary_of k turbines n _ _ _ _ (returns-in-Some-clause-ends g c (Drill k turbines n) built) well
