@@ -35,6 +35,10 @@ impl Model for Buffer {
 
 impl Buffer {
     /// An empty buffer.
+    ///
+    /// # Errors
+    ///
+    /// `AllocError` where there is no memory.
     pub fn new(alloc: Global) -> Result<Buffer, AllocError>
         ensures { IfOk result (λ b. b ≡ record { text = []; pending = [] }) }
     {
@@ -82,6 +86,10 @@ impl Buffer {
     }
 
     /// Pulls more bytes behind those that are pending, and answers how many. The last line is lost.
+    ///
+    /// # Errors
+    ///
+    /// `Failed` only where the source's count of faults rose.
     pub fn fill<S: Source>(&mut self, src: &mut S) -> Result<usize, Failed>
         requires { length self.old.pending < 4097 }
         ensures grows { IfOk result (λ n. length self.new.pending ≡ length self.old.pending + n) }
@@ -109,6 +117,10 @@ impl Buffer {
     }
 
     /// The next byte, which stays pending; None at the end.
+    ///
+    /// # Errors
+    ///
+    /// `Failed` only where the source's count of faults rose.
     pub fn peek<S: Source>(&mut self, src: &mut S) -> Result<Option<u8>, Failed>
         ensures some { IfOk result (λ o. IfSome o (λ b. slice_get self.new.pending 0 ≡ Some b)) }
         ensures none { IfOk result (λ o. IfNone o (IsAtEnd (ahead self.old.pending (S.left src.old)))) }
@@ -142,6 +154,11 @@ impl Buffer {
     }
 
     /// Makes the next line the last line.
+    ///
+    /// # Errors
+    ///
+    /// `TooLong` exactly where 4,097 bytes hold no newline, `NoNewline` exactly where the input ends inside a line, `Read` only where the source's count of
+    /// faults rose.
     pub fn read_line<S: Source>(&mut self, src: &mut S) -> Result<Line, LineFault>
         ensures piece { ReadsPiece (ahead self.old.pending (S.left src.old)) (ahead self.new.pending (S.left src.new))
             self.new.text (S.faults src.old) (S.faults src.new) result }

@@ -34,6 +34,10 @@ impl Layout {
     ghost use Rattle.layout_meaning.specs.Order.{ComesBefore};
 
     /// A layout of no cable, with room for 256.
+    ///
+    /// # Errors
+    ///
+    /// `AllocError` where there is no memory.
     pub fn new(alloc: Global) -> Result<Layout, AllocError>
         ensures { IfOk result (λ layout. layout ≡ []) }
     {

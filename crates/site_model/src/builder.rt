@@ -90,6 +90,10 @@ const COORDINATE_MOST: i128 = 1_000_000;
 
 impl SiteBuilder {
     /// A site with no types, points, obstacles and pair rules so far, of a version that is read.
+    ///
+    /// # Errors
+    ///
+    /// `AllocError` where there is no memory.
     pub fn new(alloc: Global, version: Version, mode: Mode) -> Result<SiteBuilder, AllocError>
         requires { version_number version ≤ latest_version }
         ensures { IfOk result (λ builder. builder ≡ record { stage = 2; site = record { version = version; mode = mode; types = []; points = []; obstacles = []; pairs = [] }; corners = []; missing = 0 }) }
@@ -110,7 +114,12 @@ impl SiteBuilder {
         })
     }
 
-    /// Adds a cable type. Its loss is given in version 2 alone.
+    /// Adds a cable type: its capacity in power units, its price in cost units a metre, and its loss, which is given in version 2 alone.
+    ///
+    /// # Errors
+    ///
+    /// `Refused` with the first of these codes that is so, or `Memory`; nothing changes then. `Form` where a point stands already, or a loss is given in version 1 or
+    /// missing in version 2; `Range` where a number is outside its range; `TooMany` where eight types stand.
     pub fn add_type(
         &mut self,
         capacity: i128,
@@ -159,7 +168,13 @@ impl SiteBuilder {
         Ok(cable_type)
     }
 
-    /// Adds a point.
+    /// Adds a point at these coordinates in metres.
+    ///
+    /// # Errors
+    ///
+    /// `Refused` with the first of these codes that is so, or `Memory`; nothing changes then. `Form` where there is no type yet, or an obstacle or a pair
+    /// rule stands already; `Range` where a number is outside its range; `BadName` where the bytes are no name; `SameName` and `SamePlace` where an earlier
+    /// point has it; `TooMany` where 256 points stand.
     pub fn add_point(
         &mut self,
         name: &[u8],
@@ -224,6 +239,12 @@ impl SiteBuilder {
     }
 
     /// Begins an obstacle of this many corners, which come next.
+    ///
+    /// # Errors
+    ///
+    /// `Refused` with the first of these codes that is so, or `Memory`; nothing changes then. `Form` where there is no type yet, a corner of the obstacle before
+    /// is missing, or a pair rule stands already; `Range` where there aren't 3 to 1,024 corners; `TooMany` where 64 obstacles stand, or the corners together
+    /// would be more than 1,024.
     pub fn add_obstacle(&mut self, corners: i128) -> Result<(), BuildFault>
         ensures good { OnOk result (IsGood self.old (AnObstacle (Some corners))) }
         ensures adds { OnOk result (Adds self.old (AnObstacle (Some corners)) self.new) }
@@ -269,8 +290,12 @@ impl SiteBuilder {
         Ok(count as usize)
     }
 
-    /// Adds the next corner of the obstacle that was begun; with the last one it is complete. No
-    /// memory is taken.
+    /// Adds the next corner of the obstacle that was begun, in metres; with the last one it is complete. No memory is taken.
+    ///
+    /// # Errors
+    ///
+    /// `Refused` with the first of these codes that is so; nothing changes then. `Form` where no corner is missing; `Range` where a coordinate is outside its
+    /// range; `InObstacle` where it is the last corner and some point isn't outside the obstacle.
     pub fn add_corner(&mut self, x: i128, y: i128) -> Result<(), BuildFault>
         ensures good { OnOk result (IsGood self.old (ACorner (Some x) (Some y))) }
         ensures adds { OnOk result (Adds self.old (ACorner (Some x) (Some y)) self.new) }
@@ -314,7 +339,13 @@ impl SiteBuilder {
         Ok(corner)
     }
 
-    /// Adds a pair rule on the points of two names: a charge, or a closing where no amount is given.
+    /// Adds a pair rule on the points of two names: a charge in cost units, or a closing where no amount is given.
+    ///
+    /// # Errors
+    ///
+    /// `Refused` with the first of these codes that is so, or `Memory`; nothing changes then. `Form` where there is no type yet or a corner is missing; `Range`
+    /// where the amount is outside its range; `BadName` where the bytes of a name are none; `UnknownName` where no point has it; `SamePair` where both names
+    /// are one point's, or an earlier rule names the pair.
     pub fn add_pair(&mut self, a: &[u8], b: &[u8], amount: Option<i128>) -> Result<(), BuildFault>
         ensures good { OnOk result (IsGood self.old (pair_item a.now b.now amount)) }
         ensures adds { OnOk result (Adds self.old (pair_item a.now b.now amount) self.new) }
