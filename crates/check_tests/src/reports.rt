@@ -41,15 +41,14 @@ fn plans_are_reported(rt: HostRuntime) -> Result<(), AllocError> {
 #[test]
 fn what_is_refused_is_not_reported(rt: HostRuntime) -> Result<(), AllocError> {
     let alloc = rt.alloc();
-    let plan = run_on(alloc, &["plan", "1023"], FIRST)?;
-    let cut = match plan.out.as_slice().strip_suffix(b"\n".as_slice()) {
+    let cut = match DOCUMENT.as_bytes().strip_suffix(b"\n".as_slice()) {
         Some(cut) => cut,
         None => &[],
     };
     let report = ran_with(alloc, &["report"], cut, &[], &[], &[])?;
     assert_eq!(rt; report.status, 6);
     assert!(rt; report.out.is_empty());
-    assert!(rt; report.note.as_slice() == b"document refused: Line at line 19\n".as_slice());
+    assert!(rt; report.note.as_slice() == b"document refused: Line at line 18\n".as_slice());
     Ok(())
 }
 

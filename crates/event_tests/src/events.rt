@@ -10,23 +10,13 @@ use bound_value::{Decisions, Mark};
 use cable_rows::{Row, RowKind, RowPool, row_form};
 use candidate_cables::Arcs;
 use layout_meaning::{Cable, Layout, Verdict, judge};
+use sample_sites::{FORK, site_of};
 use search_core::{Ended, Event, Search, Step};
-use site_model::{Mode, RawKind, Site, SiteBuilder, Version};
+use site_model::Site;
 use std::alloc::{AllocError, Global};
 use std::process::Abort;
 use std::test::Fail;
 use stored_makers::{Chooser, CutMaker};
-
-/// A substation and three turbines. The cheapest legal layout costs 2,000.
-fn fork_site(alloc: Global) -> Result<Site, Fail> {
-    let mut builder = SiteBuilder::new(alloc, Version::One, Mode::Tree)?;
-    builder.add_type(400, 1, None)?;
-    builder.add_point(b"S", 0, 0, RawKind::Substation(4, 10000))?;
-    builder.add_point(b"A", 0, 1000, RawKind::Turbine(100))?;
-    builder.add_point(b"B", -300, 1400, RawKind::Turbine(100))?;
-    builder.add_point(b"C", 300, 1400, RawKind::Turbine(100))?;
-    Ok(builder.build()?)
-}
 
 /// The layout in which these points' cables end.
 fn layout_to(alloc: Global, ends: [u32; 3]) -> Result<Layout, Fail> {
@@ -185,7 +175,7 @@ fn search_under_events<
 #[test]
 fn events_that_are_no_rounds_close_a_search(rt: HostRuntime) -> Result<(), Fail> {
     let alloc = rt.alloc();
-    let site = fork_site(alloc)?;
+    let site = site_of(alloc, FORK)?;
     let arcs = Arcs::new(alloc, &site)?;
     let make = move |site: &Site, arcs: &Arcs, shares: &Shares|
         requires { AreShares site.now arcs.now shares.now }

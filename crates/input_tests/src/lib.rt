@@ -4,6 +4,8 @@
 #[cfg(test)]
 mod judgements;
 #[cfg(test)]
+mod limits;
+#[cfg(test)]
 mod sites;
 #[cfg(test)]
 mod streams;

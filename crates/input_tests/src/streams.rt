@@ -2,7 +2,7 @@ use run_support::{FIRST, ran_with, run_on};
 use std::alloc::{AllocError, Global};
 
 /// Words that are no command.
-const NO_COMMAND: [&[&str]; 15] = [
+const NO_COMMAND: [&[&str]; 28] = [
     &[],
     &[""],
     &["plan"],
@@ -12,10 +12,23 @@ const NO_COMMAND: [&[&str]; 15] = [
     &["plan", "01023"],
     &["plan", "1023 "],
     &["Plan", "1023"],
-    &["plan", "1023", "1"],
-    &["plan", "5", "5", "5"],
+    &["plan", "5", "0"],
+    &["plan", "5", "17"],
+    &["plan", "5", "05"],
+    &["plan", "5", "-1"],
+    &["plan", "5", "4", "3"],
+    &["plan", "5", "5", "5", "5"],
     &["check", "check"],
     &["Check"],
+    &["drill"],
+    &["drill", "7", "30"],
+    &["drill", "7", "0", "100"],
+    &["drill", "7", "201", "100"],
+    &["drill", "1000000001", "3", "5"],
+    &["drill", "7", "30", "0"],
+    &["drill", "7", "30", "50001"],
+    &["drill", "07", "30", "5"],
+    &["drill", "7", "30", "5", "5"],
     &["migrate"],
     &["--help"],
 ];
@@ -115,6 +128,32 @@ fn an_output_that_fails_is_a_write_fault(rt: HostRuntime) -> Result<(), AllocErr
             assert!(rt; cut.note.as_slice() == b"write fault\n".as_slice());
         }
         assert!(rt; ended);
+    }
+    Ok(())
+}
+
+/// How many lines end in these bytes.
+fn line_count(bytes: &[u8]) -> usize {
+    bytes.iter().filter(|byte| **byte == b'\n').count()
+}
+
+#[test]
+fn a_plan_is_written_line_by_line(rt: HostRuntime) -> Result<(), AllocError> {
+    let alloc = rt.alloc();
+    let whole = run_on(alloc, &["plan", "10"], FIRST)?;
+    let lines = line_count(whole.out.as_slice());
+    for push in 1..=lines {
+        let cut = ran_with(
+            alloc,
+            &["plan", "10"],
+            FIRST.as_bytes(),
+            &[],
+            &[push as u64],
+            &[],
+        )?;
+        assert_eq!(rt; cut.status, 8, "{push}");
+        assert!(rt; whole.out.starts_with(cut.out.as_slice()), "{push}");
+        assert_eq!(rt; line_count(cut.out.as_slice()), push - 1, "{push}");
     }
     Ok(())
 }

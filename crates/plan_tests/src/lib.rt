@@ -4,4 +4,6 @@
 #[cfg(test)]
 mod compared;
 #[cfg(test)]
+mod drills;
+#[cfg(test)]
 mod plans;

@@ -3,10 +3,10 @@ use std::alloc::{AllocError, Global};
 
 /// What a plan of the first site is.
 const FIRST_PLAN: &str =
-    "site 1\nmode tree\ntype 400 100\nsubstation S 0 0 4 10000\nturbine A 300 400 100\nend site\nbudget 1023\nrow out 1\nrow inlet 0\nrow inlet 1\nrow flow 1\nrow power 0\nwork 1 1\nby 0 52428800000\nstop\nlayout 1\ncable A S 0\noptimal 50000\nend document\n";
+    "site 1\nmode tree\ntype 400 100\nsubstation S 0 0 4 10000\nturbine A 300 400 100\nend site\nbudget 1023\nrow out 1\nrow inlet 0\nrow inlet 1\nrow flow 1\nrow power 0\nrow cut 1\nwork 1 1\nby 0 52428800000\nstop\nlayout 1\ncable A S 0\noptimal 50000\nend document\n";
 
 /// A site in its lines, the status, and how its plan ends.
-const PLANS: [(&str, u8, &str); 27] = [
+const PLANS: [(&str, u8, &str); 28] = [
     (FIRST, 0, "layout 1\ncable A S 0\noptimal 50000\n"),
     (
         "site 1\nmode tree\ntype 400 1\nsubstation S 0 0 4 10000\nturbine A 1 1 100\nend site\n",
@@ -95,6 +95,12 @@ const PLANS: [(&str, u8, &str); 27] = [
         5,
         "layout 0\ninfeasible\n",
     ),
+    // The same with four feeders: three turbines need two cables into the substation.
+    (
+        "site 1\nmode tree\ntype 200 1\nsubstation S 0 0 4 10000\nturbine A 0 1000 100\nturbine B 1000 0 100\nturbine C 1000 1000 100\nend site\n",
+        0,
+        "optimal 3000\n",
+    ),
     (
         "site 1\nmode tree\ntype 400 1\nsubstation S 0 0 4 250\nturbine A 0 1000 100\nturbine B 1000 0 100\nturbine C 1000 1000 100\nend site\n",
         5,
@@ -161,13 +167,28 @@ const FARM: &str =
     "site 1\nmode tree\ntype 300 180\ntype 600 310\nsubstation Hub 1200 -900 8 10000\nturbine T1A 0 0 80\nturbine T1B 800 60 80\nturbine T1C 1600 0 80\nturbine T1D 2400 60 80\nturbine T2A 150 850 80\nturbine T2B 950 910 80\nturbine T2C 1750 850 80\nturbine T2D 2550 910 80\nturbine T3A 0 1700 80\nturbine T3B 800 1760 80\nturbine T3C 1600 1700 80\nturbine T3D 2400 1760 80\nbend K 2000 -200\nobstacle 4\ncorner 900 300\ncorner 1150 300\ncorner 1150 620\ncorner 900 620\ncharge T1A Hub 20000\nclosed T1D T2D\nend site\n";
 
 /// A site, a budget of works, the status, and how the plan ends after one work, or more.
-const SHORT_PLANS: [(&str, &str, u8, &str); 6] = [
+const SHORT_PLANS: [(&str, &str, u8, &str); 8] = [
     (FARM, "1", 3, "gap 2139030 2003336\n"),
+    // The cheapest in-tree costs as much, so one work is enough.
     (
         FORK,
         "1",
-        3,
-        "layout 3\ncable A S 0\ncable B A 0\ncable C A 0\ngap 2000 1987\n",
+        0,
+        "layout 3\ncable A S 0\ncable B A 0\ncable C A 0\noptimal 2000\n",
+    ),
+    // The cheapest first cables of the two cost 200.
+    (
+        "site 1\nmode tree\ntype 400 1\nsubstation S 0 0 4 10000\nturbine A 0 1000 100\nturbine B 100 1000 100\nend site\n",
+        "1",
+        0,
+        "layout 2\ncable A S 0\ncable B A 0\noptimal 1100\n",
+    ),
+    // No arc leaves the two together.
+    (
+        "site 1\nmode tree\ntype 400 1\nsubstation S 0 0 4 10000\nturbine A 0 1000 100\nturbine B 100 1000 100\nclosed A S\nclosed B S\nend site\n",
+        "1",
+        5,
+        "row cut 1 2\nwork 1 0\ndead row 8\nlayout 0\ninfeasible\n",
     ),
     (FIRST, "1", 0, "layout 1\ncable A S 0\noptimal 50000\n"),
     (

@@ -6,27 +6,17 @@ use bound_value::{
 };
 use cable_rows::{RowKind, RowPool, row_form};
 use candidate_cables::Arcs;
-use site_model::{Mode, RawKind, Site, SiteBuilder, Version};
+use sample_sites::{FORK, site_of};
+use site_model::Site;
 use std::alloc::Global;
 use std::test::Fail;
 
 /// How many units of a weight or a value make a cost unit.
 const UNIT: i128 = 1_048_576;
 
-/// A substation and three turbines; arc 0 is from the first turbine to the substation, arcs 4 and 7 are from the other two to the first.
-fn small_site(alloc: Global) -> Result<Site, Fail> {
-    let mut builder = SiteBuilder::new(alloc, Version::One, Mode::Tree)?;
-    builder.add_type(400, 1, None)?;
-    builder.add_point(b"S", 0, 0, RawKind::Substation(4, 10000))?;
-    builder.add_point(b"A", 0, 1000, RawKind::Turbine(100))?;
-    builder.add_point(b"B", -300, 1400, RawKind::Turbine(100))?;
-    builder.add_point(b"C", 300, 1400, RawKind::Turbine(100))?;
-    Ok(builder.build()?)
-}
-
 #[test]
 fn the_ceiling_of_a_small_site(rt: HostRuntime) -> Result<(), Fail> {
-    let site = small_site(rt.alloc())?;
+    let site = site_of(rt.alloc(), FORK)?;
     let arcs = Arcs::new(rt.alloc(), &site)?;
     assert!(&rt; ceiling(&site, &arcs) == 3864);
     Ok(())
@@ -69,7 +59,7 @@ fn units_of(
 
 #[test]
 fn used_arcs_are_weighed(rt: HostRuntime) -> Result<(), Fail> {
-    let site = small_site(rt.alloc())?;
+    let site = site_of(rt.alloc(), FORK)?;
     let arcs = Arcs::new(rt.alloc(), &site)?;
     let pool = RowPool::new(rt.alloc())?;
     let weights = Weights::new(rt.alloc())?;
@@ -86,7 +76,7 @@ fn used_arcs_are_weighed(rt: HostRuntime) -> Result<(), Fail> {
 
 #[test]
 fn weights_on_turbines_and_a_cut(rt: HostRuntime) -> Result<(), Fail> {
-    let site = small_site(rt.alloc())?;
+    let site = site_of(rt.alloc(), FORK)?;
     let arcs = Arcs::new(rt.alloc(), &site)?;
     let mut pool = RowPool::new(rt.alloc())?;
     let mut weights = Weights::new(rt.alloc())?;
@@ -114,7 +104,7 @@ fn weights_on_turbines_and_a_cut(rt: HostRuntime) -> Result<(), Fail> {
 
 #[test]
 fn a_weight_on_a_flow(rt: HostRuntime) -> Result<(), Fail> {
-    let site = small_site(rt.alloc())?;
+    let site = site_of(rt.alloc(), FORK)?;
     let arcs = Arcs::new(rt.alloc(), &site)?;
     let mut pool = RowPool::new(rt.alloc())?;
     let mut weights = Weights::new(rt.alloc())?;
@@ -142,14 +132,8 @@ fn values_are_rounded_up(rt: HostRuntime) {
 }
 
 /// A substation and a turbine of power 100, 1,000 metres apart, and two types; arc 0 is from the turbine to the substation.
-fn site_of_one_arc(alloc: Global) -> Result<Site, Fail> {
-    let mut builder = SiteBuilder::new(alloc, Version::One, Mode::Tree)?;
-    builder.add_type(150, 1, None)?;
-    builder.add_type(400, 2, None)?;
-    builder.add_point(b"S", 0, 0, RawKind::Substation(4, 10000))?;
-    builder.add_point(b"A", 0, 1000, RawKind::Turbine(100))?;
-    Ok(builder.build()?)
-}
+const ONE_ARC: &str =
+    "site 1\nmode tree\ntype 150 1\ntype 400 2\nsubstation S 0 0 4 10000\nturbine A 0 1000 100\nend site\n";
 
 /// The least choice of arc 0, where a use and each unit of load count as so many cost units.
 fn least_at(site: &Site, arcs: &Arcs, mark: Mark, on_use: i32, on_load: i32) -> i128
@@ -163,7 +147,7 @@ fn least_at(site: &Site, arcs: &Arcs, mark: Mark, on_use: i32, on_load: i32) -> 
 
 #[test]
 fn the_least_choices_of_an_arc(rt: HostRuntime) -> Result<(), Fail> {
-    let site = site_of_one_arc(rt.alloc())?;
+    let site = site_of(rt.alloc(), ONE_ARC)?;
     let arcs = Arcs::new(rt.alloc(), &site)?;
     assert!(&rt; arcs.len() == 1);
     for (mark, on_use, on_load, least) in [
@@ -203,7 +187,7 @@ fn are_lawful(
 
 #[test]
 fn lawful_weights(rt: HostRuntime) -> Result<(), Fail> {
-    let site = site_of_one_arc(rt.alloc())?;
+    let site = site_of(rt.alloc(), ONE_ARC)?;
     let arcs = Arcs::new(rt.alloc(), &site)?;
     let mut pool = RowPool::new(rt.alloc())?;
     row_form(&site, &arcs, RowKind::Out, &[1])?;

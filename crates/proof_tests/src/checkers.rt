@@ -6,7 +6,8 @@ use cable_definitions::claim::Refusal;
 use cable_definitions::row::RowKind;
 use layout_meaning::{Cable, Layout};
 use proof_checker::{Bound, Cause, Checker, Claim};
-use site_model::{Mode, RawKind, Site, SiteBuilder, Version};
+use sample_sites::{FIRST, ONE_FEEDER, site_of};
+use site_model::Site;
 use std::alloc::Global;
 use std::test::Fail;
 
@@ -24,14 +25,9 @@ const WORKS: [(u32, Act); 3] = [
     (3, Act::Dead(Why::Row(0))),
 ];
 
-/// A substation that takes so much power, and one turbine of power 100.
-fn one_turbine(alloc: Global, power: i128) -> Result<Site, Fail> {
-    let mut builder = SiteBuilder::new(alloc, Version::One, Mode::Tree)?;
-    builder.add_type(400, 100, None)?;
-    builder.add_point(b"S", 0, 0, RawKind::Substation(4, power))?;
-    builder.add_point(b"A", 300, 400, RawKind::Turbine(100))?;
-    Ok(builder.build()?)
-}
+/// The first site with a substation that takes less power than its turbine gives.
+const WEAK: &str =
+    "site 1\nmode tree\ntype 400 100\nsubstation S 0 0 4 50\nturbine A 300 400 100\nend site\n";
 
 /// What is answered to the claim of a document: a row `Out` of a point in line 1, a work in each line that follows, a layout, and the claim
 /// in the next line.
@@ -74,7 +70,7 @@ fn refused(line: u64, cause: Cause) -> Result<Bound, Refusal> {
 #[test]
 fn claims_of_one_turbine(rt: HostRuntime) -> Result<(), Fail> {
     let alloc = rt.alloc();
-    let site = one_turbine(alloc, 10000)?;
+    let site = site_of(alloc, FIRST)?;
     let answer = check(alloc, &site, 3, 1, &WORKS, &[CABLE], Claim::Optimal(50000))?;
     assert_eq!(rt; answer, Ok(Bound::Least(50000)));
     let answer = check(alloc, &site, 3, 1, &WORKS, &[CABLE], Claim::Optimal(50001))?;
@@ -99,7 +95,7 @@ fn claims_of_one_turbine(rt: HostRuntime) -> Result<(), Fail> {
 #[test]
 fn gaps_of_one_turbine(rt: HostRuntime) -> Result<(), Fail> {
     let alloc = rt.alloc();
-    let site = one_turbine(alloc, 10000)?;
+    let site = site_of(alloc, FIRST)?;
     let stop = [(1, Act::Stop)];
     let gap = |cost, bound| Claim::Gap { cost, bound };
     let answer = check(alloc, &site, 1, 1, &stop, &[CABLE], gap(50000, 0))?;
@@ -113,21 +109,10 @@ fn gaps_of_one_turbine(rt: HostRuntime) -> Result<(), Fail> {
     Ok(())
 }
 
-/// A substation that takes one cable, and three turbines, no two of which it can feed but through one another.
-fn one_feeder(alloc: Global) -> Result<Site, Fail> {
-    let mut builder = SiteBuilder::new(alloc, Version::One, Mode::Tree)?;
-    builder.add_type(200, 1, None)?;
-    builder.add_point(b"S", 0, 0, RawKind::Substation(1, 10000))?;
-    builder.add_point(b"A", 0, 1000, RawKind::Turbine(100))?;
-    builder.add_point(b"B", 1000, 0, RawKind::Turbine(100))?;
-    builder.add_point(b"C", 1000, 1000, RawKind::Turbine(100))?;
-    Ok(builder.build()?)
-}
-
 #[test]
 fn a_turbine_that_cannot_be_joined(rt: HostRuntime) -> Result<(), Fail> {
     let alloc = rt.alloc();
-    let site = one_feeder(alloc)?;
+    let site = site_of(alloc, ONE_FEEDER)?;
     let stop = [(1, Act::Stop)];
     let cable = |from, to| Cable { from, to, grade: 0 };
     let part = [cable(1, 0), cable(2, 1)];
@@ -153,7 +138,7 @@ fn a_turbine_that_cannot_be_joined(rt: HostRuntime) -> Result<(), Fail> {
 #[test]
 fn wrong_items_of_one_turbine(rt: HostRuntime) -> Result<(), Fail> {
     let alloc = rt.alloc();
-    let site = one_turbine(alloc, 10000)?;
+    let site = site_of(alloc, FIRST)?;
     let claim = Claim::Optimal(50000);
     let answer = check(alloc, &site, 3, 0, &WORKS, &[CABLE], claim)?;
     assert_eq!(rt; answer, refused(1, Cause::Row));
@@ -210,7 +195,7 @@ fn wrong_items_of_one_turbine(rt: HostRuntime) -> Result<(), Fail> {
 #[test]
 fn a_site_without_a_layout(rt: HostRuntime) -> Result<(), Fail> {
     let alloc = rt.alloc();
-    let site = one_turbine(alloc, 50)?;
+    let site = site_of(alloc, WEAK)?;
     let works = [WORKS[0], (2, Act::Dead(Why::Power(0))), WORKS[2]];
     let answer = check(alloc, &site, 3, 1, &works, &[], Claim::Infeasible)?;
     assert_eq!(rt; answer, Ok(Bound::NoLayout));
@@ -243,7 +228,7 @@ fn weighed(
 #[test]
 fn weights_of_one_turbine(rt: HostRuntime) -> Result<(), Fail> {
     let alloc = rt.alloc();
-    let site = one_turbine(alloc, 10000)?;
+    let site = site_of(alloc, FIRST)?;
     let unit = 1_048_576;
     assert_eq!(rt;
         weighed(alloc, &site, 0, 50000 * unit)?,

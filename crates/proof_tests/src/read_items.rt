@@ -2,7 +2,7 @@ use cable_definitions::claim::{Cause, Claim, Refusal};
 use cable_definitions::row::{Act, RowKind};
 use cable_text::{Lines, MemorySource};
 use proof_text::*;
-use site_model::{Mode, RawKind, Site, SiteBuilder, Version};
+use sample_sites::site_of;
 use std::alloc::Global;
 use std::test::Fail;
 
@@ -149,17 +149,12 @@ fn causes_of_items(rt: HostRuntime) -> Result<(), Fail> {
 }
 
 /// A substation and a turbine.
-fn pair_of_points(alloc: Global) -> Result<Site, Fail> {
-    let mut builder = SiteBuilder::new(alloc, Version::One, Mode::Tree)?;
-    builder.add_type(200, 1, None)?;
-    builder.add_point(b"S", 0, 0, RawKind::Substation(1, 10000))?;
-    builder.add_point(b"A", 0, 1000, RawKind::Turbine(100))?;
-    Ok(builder.build()?)
-}
+const PAIR: &str =
+    "site 1\nmode tree\ntype 200 1\nsubstation S 0 0 1 10000\nturbine A 0 1000 100\nend site\n";
 
 /// What is read where a verdict may stand.
 fn verdict(alloc: Global, text: &[u8]) -> Result<Result<Claim, ItemFault>, Fail> {
-    let site = pair_of_points(alloc)?;
+    let site = site_of(alloc, PAIR)?;
     let bytes = Vec::from_slice(alloc, text)?;
     let mut source = MemorySource::new(bytes, 4096, Vec::new(alloc));
     let mut lines = Lines::new(alloc)?;

@@ -5,21 +5,9 @@ use cable_rows::{RowKind, RowPool, row_form};
 use candidate_cables::Arcs;
 use layout_meaning::{Cable, Layout};
 use node_reasons::{Why, find_dead, full_layout, is_dead, is_full};
-use site_model::{Mode, RawKind, Site, SiteBuilder, Version};
+use sample_sites::{FORK, site_of};
 use std::alloc::{AllocError, Global};
 use std::test::Fail;
-
-/// A substation and three turbines; the arcs 0 to 8 are those from the first turbine to the points in order, then from the second and the
-/// third.
-fn fork(alloc: Global) -> Result<Site, Fail> {
-    let mut builder = SiteBuilder::new(alloc, Version::One, Mode::Tree)?;
-    builder.add_type(400, 1, None)?;
-    builder.add_point(b"S", 0, 0, RawKind::Substation(4, 10000))?;
-    builder.add_point(b"A", 0, 1000, RawKind::Turbine(100))?;
-    builder.add_point(b"B", -300, 1400, RawKind::Turbine(100))?;
-    builder.add_point(b"C", 300, 1400, RawKind::Turbine(100))?;
-    Ok(builder.build()?)
-}
 
 /// The decisions that give these arcs this mark, and leave the others free.
 fn marked(alloc: Global, arcs: &Arcs, numbers: &[u32], mark: Mark) -> Result<Decisions, AllocError>
@@ -37,7 +25,7 @@ fn marked(alloc: Global, arcs: &Arcs, numbers: &[u32], mark: Mark) -> Result<Dec
 #[test]
 fn reasons_of_a_fork(rt: HostRuntime) -> Result<(), Fail> {
     let alloc = rt.alloc();
-    let site = fork(alloc)?;
+    let site = site_of(alloc, FORK)?;
     let arcs = Arcs::new(alloc, &site)?;
     let mut pool = RowPool::new(alloc)?;
     let members = [1];
@@ -61,7 +49,7 @@ fn reasons_of_a_fork(rt: HostRuntime) -> Result<(), Fail> {
 #[test]
 fn the_full_layout_of_a_fork(rt: HostRuntime) -> Result<(), Fail> {
     let alloc = rt.alloc();
-    let site = fork(alloc)?;
+    let site = site_of(alloc, FORK)?;
     let arcs = Arcs::new(alloc, &site)?;
     let mut layout = Layout::new(alloc)?;
     let open = marked(alloc, &arcs, &[0, 4], Mark::Used)?;

@@ -3,20 +3,9 @@ ghost use Rattle.cable_definitions.specs.Arcs.{AreArcs};
 
 use cable_rows::{Row, RowFault, RowKind, RowPool, row_form};
 use candidate_cables::Arcs;
-use site_model::{Mode, RawKind, Site, SiteBuilder, Version};
-use std::alloc::Global;
+use sample_sites::{FORK, site_of};
+use site_model::Site;
 use std::test::Fail;
-
-/// A substation with four feeders, and three turbines of power 100.
-fn small_site(alloc: Global) -> Result<Site, Fail> {
-    let mut builder = SiteBuilder::new(alloc, Version::One, Mode::Tree)?;
-    builder.add_type(400, 1, None)?;
-    builder.add_point(b"S", 0, 0, RawKind::Substation(4, 10000))?;
-    builder.add_point(b"A", 0, 1000, RawKind::Turbine(100))?;
-    builder.add_point(b"B", -300, 1400, RawKind::Turbine(100))?;
-    builder.add_point(b"C", 300, 1400, RawKind::Turbine(100))?;
-    Ok(builder.build()?)
-}
 
 /// Lists a row that has to be well formed.
 fn list(
@@ -34,7 +23,7 @@ fn list(
 
 #[test]
 fn faults_of_members(rt: HostRuntime) -> Result<(), Fail> {
-    let site = small_site(rt.alloc())?;
+    let site = site_of(rt.alloc(), FORK)?;
     let arcs = Arcs::new(rt.alloc(), &site)?;
     assert_eq!(rt;
         row_form(&site, &arcs, RowKind::Out, &[]),
@@ -69,7 +58,7 @@ fn faults_of_members(rt: HostRuntime) -> Result<(), Fail> {
 
 #[test]
 fn faults_of_kinds(rt: HostRuntime) -> Result<(), Fail> {
-    let site = small_site(rt.alloc())?;
+    let site = site_of(rt.alloc(), FORK)?;
     let arcs = Arcs::new(rt.alloc(), &site)?;
     assert_eq!(rt;
         row_form(&site, &arcs, RowKind::Out, &[0]),
@@ -109,7 +98,7 @@ fn a_row_keeps_its_members(rt: HostRuntime) -> Result<(), Fail> {
 
 #[test]
 fn sides_of_listed_rows(rt: HostRuntime) -> Result<(), Fail> {
-    let site = small_site(rt.alloc())?;
+    let site = site_of(rt.alloc(), FORK)?;
     let arcs = Arcs::new(rt.alloc(), &site)?;
     let mut pool = RowPool::new(rt.alloc())?;
     list(&mut pool, &site, &arcs, RowKind::Flow, &[1])?;
@@ -131,7 +120,7 @@ fn sides_of_listed_rows(rt: HostRuntime) -> Result<(), Fail> {
 
 #[test]
 fn coefficients_of_listed_rows(rt: HostRuntime) -> Result<(), Fail> {
-    let site = small_site(rt.alloc())?;
+    let site = site_of(rt.alloc(), FORK)?;
     let arcs = Arcs::new(rt.alloc(), &site)?;
     let mut pool = RowPool::new(rt.alloc())?;
     list(&mut pool, &site, &arcs, RowKind::Out, &[1])?;

@@ -3,6 +3,7 @@
 
 use cable_run::run;
 use cable_text::{MemorySink, MemorySource};
+pub use sample_sites::{FIRST, FORK};
 use std::alloc::{AllocError, Global};
 
 /// What a run printed and noted, and its status.
@@ -26,13 +27,26 @@ pub fn ran_with(
     pushes: &[u64],
     notes: &[u64],
 ) -> Result<Ran, AllocError> {
+    ran_in(alloc, ROOM, words, input, pulls, pushes, notes)
+}
+
+/// The same where a run may print so many bytes.
+fn ran_in(
+    alloc: Global,
+    room: usize,
+    words: &[&str],
+    input: &[u8],
+    pulls: &[u64],
+    pushes: &[u64],
+    notes: &[u64],
+) -> Result<Ran, AllocError> {
     let mut texts = Vec::new(alloc);
     for word in words {
         texts.push(String::from_str(alloc, word)?)?;
     }
     let bytes = Vec::from_slice(alloc, input)?;
     let mut source = MemorySource::new(bytes, 16, Vec::from_slice(alloc, pulls)?);
-    let mut out = MemorySink::new(alloc, ROOM, Vec::from_slice(alloc, pushes)?)?;
+    let mut out = MemorySink::new(alloc, room, Vec::from_slice(alloc, pushes)?)?;
     let mut note = MemorySink::new(alloc, 512, Vec::from_slice(alloc, notes)?)?;
     let ending = run(alloc, texts.as_slice(), &mut source, &mut out, &mut note);
     Ok(Ran {
@@ -47,13 +61,10 @@ pub fn run_on(alloc: Global, words: &[&str], input: &str) -> Result<Ran, AllocEr
     ran_with(alloc, words, input.as_bytes(), &[], &[], &[])
 }
 
-/// The site of one turbine 500 metres from its substation.
-pub const FIRST: &str =
-    "site 1\nmode tree\ntype 400 100\nsubstation S 0 0 4 10000\nturbine A 300 400 100\nend site\n";
-
-/// The site of three turbines, of which the first is nearest to the substation.
-pub const FORK: &str =
-    "site 1\nmode tree\ntype 400 1\nsubstation S 0 0 4 10000\nturbine A 0 1000 100\nturbine B -300 1400 100\nturbine C 300 1400 100\nend site\n";
+/// Runs a command on an input where it may print up to 4 MiB, and no stream fails.
+pub fn run_long(alloc: Global, words: &[&str], input: &[u8]) -> Result<Ran, AllocError> {
+    ran_in(alloc, 1 << 22, words, input, &[], &[], &[])
+}
 
 /// A document of the first site.
 pub const DOCUMENT: &str =

@@ -6,6 +6,7 @@ use candidate_cables::Arcs;
 use crossing_index::Crossings;
 use cut_makers::connect_row;
 use row_makers::{capacity_row, crossing_row};
+use sample_sites::site_of;
 use site_model::{Mode, RawKind, Site, SiteBuilder, Version};
 use std::alloc::Global;
 use std::test::Fail;
@@ -29,15 +30,8 @@ fn small_site(alloc: Global, capacity: i128) -> Result<Site, Fail> {
 }
 
 /// A substation and three turbines in the corners of a square: the arcs between 0 and 2 clash with those between 1 and 3.
-fn square_site(alloc: Global) -> Result<Site, Fail> {
-    let mut builder = SiteBuilder::new(alloc, Version::One, Mode::Tree)?;
-    builder.add_type(400, 1, None)?;
-    builder.add_point(b"S", 0, 0, RawKind::Substation(4, 10000))?;
-    builder.add_point(b"A", 1000, 0, RawKind::Turbine(100))?;
-    builder.add_point(b"B", 1000, 1000, RawKind::Turbine(100))?;
-    builder.add_point(b"C", 0, 1000, RawKind::Turbine(100))?;
-    Ok(builder.build()?)
-}
+const SQUARE: &str =
+    "site 1\nmode tree\ntype 400 1\nsubstation S 0 0 4 10000\nturbine A 1000 0 100\nturbine B 1000 1000 100\nturbine C 0 1000 100\nend site\n";
 
 /// These shares of arcs, which are given by start and end.
 fn shares_of(alloc: Global, arcs: &Arcs, cables: &[(u32, u32, u32)]) -> Result<Shares, Fail>
@@ -115,7 +109,7 @@ fn power_asks_for_cables(rt: HostRuntime) -> Result<(), Fail> {
 #[test]
 fn arcs_that_cannot_be_together(rt: HostRuntime) -> Result<(), Fail> {
     let alloc = rt.alloc();
-    let site = square_site(alloc)?;
+    let site = site_of(alloc, SQUARE)?;
     let arcs = Arcs::new(alloc, &site)?;
     let crossings = Crossings::new(alloc, &site, &arcs)?;
     // The arcs: 0 A>S, 1 A>B, 2 A>C, 3 B>S, 4 B>A, 5 B>C, 6 C>S, 7 C>A, 8 C>B.

@@ -1,7 +1,15 @@
 use candidate_cables::Arcs;
 use intree_floor::{Floor, SetList, floor, has_no_bends};
-use site_model::{Mode, RawKind, SiteBuilder, Version};
+use sample_sites::{FORK, site_of};
 use std::test::Fail;
+
+/// Two turbines side by side, far from the substation.
+const SIDE_BY_SIDE: &str =
+    "site 1\nmode tree\ntype 400 1\nsubstation S 0 0 4 10000\nturbine A 0 1000 100\nturbine B 100 1000 100\nend site\n";
+
+/// The same, with the ways to the substation closed.
+const CUT_OFF: &str =
+    "site 1\nmode tree\ntype 400 1\nsubstation S 0 0 4 10000\nturbine A 0 1000 100\nturbine B 100 1000 100\nclosed A S\nclosed B S\nend site\n";
 
 /// The sum of the weights.
 fn sum_of(sets: &SetList) -> u64 {
@@ -15,13 +23,7 @@ fn sum_of(sets: &SetList) -> u64 {
 #[test]
 fn a_fork(rt: HostRuntime) -> Result<(), Fail> {
     let alloc = rt.alloc();
-    let mut builder = SiteBuilder::new(alloc, Version::One, Mode::Tree)?;
-    builder.add_type(400, 1, None)?;
-    builder.add_point(b"S", 0, 0, RawKind::Substation(4, 10000))?;
-    builder.add_point(b"A", 0, 1000, RawKind::Turbine(100))?;
-    builder.add_point(b"B", -300, 1400, RawKind::Turbine(100))?;
-    builder.add_point(b"C", 300, 1400, RawKind::Turbine(100))?;
-    let site = builder.build()?;
+    let site = site_of(alloc, FORK)?;
     let arcs = Arcs::new(alloc, &site)?;
     assert!(&rt; has_no_bends(&site));
     match floor(alloc, &site, &arcs)? {
@@ -38,12 +40,7 @@ fn a_fork(rt: HostRuntime) -> Result<(), Fail> {
 #[test]
 fn two_turbines_side_by_side(rt: HostRuntime) -> Result<(), Fail> {
     let alloc = rt.alloc();
-    let mut builder = SiteBuilder::new(alloc, Version::One, Mode::Tree)?;
-    builder.add_type(400, 1, None)?;
-    builder.add_point(b"S", 0, 0, RawKind::Substation(4, 10000))?;
-    builder.add_point(b"A", 0, 1000, RawKind::Turbine(100))?;
-    builder.add_point(b"B", 100, 1000, RawKind::Turbine(100))?;
-    let site = builder.build()?;
+    let site = site_of(alloc, SIDE_BY_SIDE)?;
     let arcs = Arcs::new(alloc, &site)?;
     assert!(&rt; has_no_bends(&site));
     match floor(alloc, &site, &arcs)? {
@@ -60,14 +57,7 @@ fn two_turbines_side_by_side(rt: HostRuntime) -> Result<(), Fail> {
 #[test]
 fn no_way_to_the_substation(rt: HostRuntime) -> Result<(), Fail> {
     let alloc = rt.alloc();
-    let mut builder = SiteBuilder::new(alloc, Version::One, Mode::Tree)?;
-    builder.add_type(400, 1, None)?;
-    builder.add_point(b"S", 0, 0, RawKind::Substation(4, 10000))?;
-    builder.add_point(b"A", 0, 1000, RawKind::Turbine(100))?;
-    builder.add_point(b"B", 100, 1000, RawKind::Turbine(100))?;
-    builder.add_pair(b"A", b"S", None)?;
-    builder.add_pair(b"B", b"S", None)?;
-    let site = builder.build()?;
+    let site = site_of(alloc, CUT_OFF)?;
     let arcs = Arcs::new(alloc, &site)?;
     assert!(&rt; has_no_bends(&site));
     match floor(alloc, &site, &arcs)? {

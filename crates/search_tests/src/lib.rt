@@ -10,6 +10,8 @@ mod fractions;
 #[cfg(test)]
 mod lifts;
 #[cfg(test)]
+mod listed_floors;
+#[cfg(test)]
 mod plain_plans;
 #[cfg(test)]
 mod programs;

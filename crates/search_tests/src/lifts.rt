@@ -7,24 +7,13 @@ use cable_definitions::row::RowKind;
 use cable_rows::{RowPool, row_form};
 use candidate_cables::Arcs;
 use row_lifts::{lift_all, slack};
-use site_model::{Mode, RawKind, Site, SiteBuilder, Version};
+use sample_sites::{FORK, site_of};
+use site_model::Site;
 use std::alloc::Global;
 use std::test::Fail;
 
 /// What a cost of one unit weighs.
 const UNIT: i128 = 1_048_576;
-
-/// A substation and three turbines. The arcs with their lengths are 0 A>S 1000, 1 A>B 500, 2 A>C 500, 3 B>S 1432, 4 B>A 500, 5 B>C 600, 6 C>S
-/// 1432, 7 C>A 500 and 8 C>B 600.
-fn fork_site(alloc: Global) -> Result<Site, Fail> {
-    let mut builder = SiteBuilder::new(alloc, Version::One, Mode::Tree)?;
-    builder.add_type(400, 1, None)?;
-    builder.add_point(b"S", 0, 0, RawKind::Substation(4, 10000))?;
-    builder.add_point(b"A", 0, 1000, RawKind::Turbine(100))?;
-    builder.add_point(b"B", -300, 1400, RawKind::Turbine(100))?;
-    builder.add_point(b"C", 300, 1400, RawKind::Turbine(100))?;
-    Ok(builder.build()?)
-}
 
 /// Lists a row that has to be well formed.
 fn list(
@@ -55,7 +44,7 @@ fn rows(alloc: Global, site: &Site, arcs: &Arcs) -> Result<RowPool, Fail>
 
 #[test]
 fn all_rows_are_lifted(rt: HostRuntime) -> Result<(), Fail> {
-    let site = fork_site(rt.alloc())?;
+    let site = site_of(rt.alloc(), FORK)?;
     let arcs = Arcs::new(rt.alloc(), &site)?;
     let pool = rows(rt.alloc(), &site, &arcs)?;
     let decisions = Decisions::new(rt.alloc(), arcs.len())?;
@@ -68,7 +57,7 @@ fn all_rows_are_lifted(rt: HostRuntime) -> Result<(), Fail> {
 
 #[test]
 fn a_row_is_raised_by_the_arcs_that_are_left(rt: HostRuntime) -> Result<(), Fail> {
-    let site = fork_site(rt.alloc())?;
+    let site = site_of(rt.alloc(), FORK)?;
     let arcs = Arcs::new(rt.alloc(), &site)?;
     let pool = rows(rt.alloc(), &site, &arcs)?;
     let mut decisions = Decisions::new(rt.alloc(), arcs.len())?;

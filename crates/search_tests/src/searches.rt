@@ -89,17 +89,23 @@ const CORNERS: [RawPoint; 3] = [
     (b'C', 1000, 1000, RawKind::Turbine(100)),
 ];
 
-/// One work proves what the rows of single points and of the three turbines together say, which is more than the least costs out of the turbines, 1,500;
-/// a part is left where no layout is known.
+/// One work proves the cost of the cheapest in-tree, 2,000; with a bend more than the least costs out of the turbines,
+/// 1,500; a part is left where no layout is known.
 #[test]
 fn one_work(rt: HostRuntime) -> Result<(), Fail> {
     let alloc = rt.alloc();
     let fork = site_of(alloc, Mode::Tree, 400, 1, &[SUBSTATION, NEAR, LEFT, RIGHT])?;
-    let gap = Claim::Gap {
-        cost: 2000,
-        bound: 1987,
-    };
-    assert_eq!(&rt; claim_of(alloc, &fork, 1)?, gap);
+    assert_eq!(&rt; claim_of(alloc, &fork, 1)?, Claim::Optimal(2000));
+    let bend = (b'X', 50000, 50000, RawKind::Bend);
+    let with_bend = site_of(
+        alloc,
+        Mode::Tree,
+        400,
+        1,
+        &[SUBSTATION, NEAR, LEFT, RIGHT, bend],
+    )?;
+    let claim = claim_of(alloc, &with_bend, 1)?;
+    assert!(&rt; matches!(claim, Claim::Gap { cost: 2000, bound } if 1500 < bound));
 
     let little_power = (b'S', 0, 0, RawKind::Substation(4, 250));
     let [first, second, third] = CORNERS;
@@ -125,7 +131,7 @@ fn one_work(rt: HostRuntime) -> Result<(), Fail> {
 /// The items of a turbine 500 metres from its substation: the layout to begin with costs what the weight
 /// of node 1 proves.
 const ITEMS: &str =
-    "row out 1\nrow inlet 0\nrow inlet 1\nrow flow 1\nrow power 0\nwork 1 1\nby 0 52428800000\nstop\n";
+    "row out 1\nrow inlet 0\nrow inlet 1\nrow flow 1\nrow power 0\nrow cut 1\nwork 1 1\nby 0 52428800000\nstop\n";
 
 #[test]
 fn one_turbine(rt: HostRuntime) -> Result<(), Fail> {

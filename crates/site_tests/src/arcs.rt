@@ -1,16 +1,15 @@
 use candidate_cables::Arcs;
-use site_model::{Mode, RawKind, SiteBuilder, Version};
+use sample_sites::site_of;
 use std::test::Fail;
+
+/// A substation and two turbines.
+const TWO_TURBINES: &str =
+    "site 1\nmode tree\ntype 400 1\nsubstation S 0 0 4 10000\nturbine A 0 1000 100\nturbine B -300 1400 100\nend site\n";
 
 #[test]
 fn the_arcs_of_a_small_site(rt: HostRuntime) -> Result<(), Fail> {
     let alloc = rt.alloc();
-    let mut builder = SiteBuilder::new(alloc, Version::One, Mode::Tree)?;
-    builder.add_type(400, 1, None)?;
-    builder.add_point(b"S", 0, 0, RawKind::Substation(4, 10000))?;
-    builder.add_point(b"A", 0, 1000, RawKind::Turbine(100))?;
-    builder.add_point(b"B", -300, 1400, RawKind::Turbine(100))?;
-    let site = builder.build()?;
+    let site = site_of(alloc, TWO_TURBINES)?;
     let arcs = Arcs::new(alloc, &site)?;
     assert!(&rt; arcs.len() == 4);
     assert!(&rt; arcs.get(0).length == 1000);

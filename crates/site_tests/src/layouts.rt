@@ -1,25 +1,21 @@
 use layout_meaning::{Cable, JoinFault, Layout, LayoutFull, PartialLayout, Rule, part_blocked};
-use site_model::{Mode, RawKind, Site, SiteBuilder, Version};
+use sample_sites::site_of;
 use std::alloc::{AllocError, Global};
 use std::test::Fail;
 
 /// A substation with one feeder, three turbines that stand with it on the corners of a square, and a fourth turbine behind the first. A cable
 /// bears the power of two turbines.
-fn square(alloc: Global) -> Result<Site, Fail> {
-    let mut builder = SiteBuilder::new(alloc, Version::One, Mode::Tree)?;
-    builder.add_type(200, 1, None)?;
-    builder.add_point(b"S", 0, 0, RawKind::Substation(1, 10000))?;
-    builder.add_point(b"A", 0, 1000, RawKind::Turbine(100))?;
-    builder.add_point(b"B", 1000, 0, RawKind::Turbine(100))?;
-    builder.add_point(b"C", 1000, 1000, RawKind::Turbine(100))?;
-    builder.add_point(b"D", 0, 2000, RawKind::Turbine(100))?;
-    Ok(builder.build()?)
-}
+const SQUARE: &str =
+    "site 1\nmode tree\ntype 200 1\nsubstation S 0 0 1 10000\nturbine A 0 1000 100\nturbine B 1000 0 100\nturbine C 1000 1000 100\nturbine D 0 2000 100\nend site\n";
+
+/// A substation with one feeder and two turbines; the type of greater capacity comes first.
+const TWO_TYPES: &str =
+    "site 1\nmode tree\ntype 200 3\ntype 100 2\nsubstation S 0 0 1 10000\nturbine A 0 1000 100\nturbine B 1000 0 100\nend site\n";
 
 #[test]
 fn joins_turbines_until_one_is_blocked(rt: HostRuntime) -> Result<(), Fail> {
     let alloc = rt.alloc();
-    let site = square(alloc)?;
+    let site = site_of(alloc, SQUARE)?;
     let mut part = PartialLayout::new(alloc, &site)?;
     assert!(&rt; !part.blocked(3));
     assert_eq!(rt; part.try_join(1, 0), Ok(()));
@@ -41,7 +37,7 @@ fn joins_turbines_until_one_is_blocked(rt: HostRuntime) -> Result<(), Fail> {
 #[test]
 fn refuses_arcs(rt: HostRuntime) -> Result<(), Fail> {
     let alloc = rt.alloc();
-    let site = square(alloc)?;
+    let site = site_of(alloc, SQUARE)?;
     let mut part = PartialLayout::new(alloc, &site)?;
     assert_eq!(rt; part.try_join(1, 0), Ok(()));
     let refusals = [
@@ -76,13 +72,7 @@ fn refuses_arcs(rt: HostRuntime) -> Result<(), Fail> {
 #[test]
 fn chooses_the_cheapest_types_anew(rt: HostRuntime) -> Result<(), Fail> {
     let alloc = rt.alloc();
-    let mut builder = SiteBuilder::new(alloc, Version::One, Mode::Tree)?;
-    builder.add_type(200, 3, None)?;
-    builder.add_type(100, 2, None)?;
-    builder.add_point(b"S", 0, 0, RawKind::Substation(1, 10000))?;
-    builder.add_point(b"A", 0, 1000, RawKind::Turbine(100))?;
-    builder.add_point(b"B", 1000, 0, RawKind::Turbine(100))?;
-    let site = builder.build()?;
+    let site = site_of(alloc, TWO_TYPES)?;
     let mut part = PartialLayout::new(alloc, &site)?;
     let cable = |from, to, grade| Cable { from, to, grade };
     assert_eq!(rt; part.try_join(1, 0), Ok(()));
@@ -98,7 +88,7 @@ fn chooses_the_cheapest_types_anew(rt: HostRuntime) -> Result<(), Fail> {
 #[test]
 fn only_grown_parts_block(rt: HostRuntime) -> Result<(), Fail> {
     let alloc = rt.alloc();
-    let site = square(alloc)?;
+    let site = site_of(alloc, SQUARE)?;
     let mut lost = Layout::new(alloc)?;
     let from_b = Cable {
         from: 2,

@@ -6,6 +6,8 @@ mod arcs;
 #[cfg(test)]
 mod crossings;
 #[cfg(test)]
+mod drills;
+#[cfg(test)]
 mod layouts;
 #[cfg(test)]
 mod lines;

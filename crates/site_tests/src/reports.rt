@@ -5,7 +5,8 @@ use cable_definitions::claim::Claim;
 use cable_text::{MemorySink, Sink};
 use layout_meaning::{Cable, Layout, Verdict, judge};
 use plan_report::report;
-use site_model::{Mode, RawKind, Site, SiteBuilder, Version};
+use sample_sites::{FIRST, site_of};
+use site_model::Site;
 use std::alloc::Global;
 use std::process::Abort;
 use std::test::Fail;
@@ -51,15 +52,6 @@ fn reported(
     }
 }
 
-/// One turbine and one substation.
-fn small_site(alloc: Global) -> Result<Site, Fail> {
-    let mut builder = SiteBuilder::new(alloc, Version::One, Mode::Tree)?;
-    builder.add_type(400, 100, None)?;
-    builder.add_point(b"S", 0, 0, RawKind::Substation(4, 10000))?;
-    builder.add_point(b"A", 300, 400, RawKind::Turbine(100))?;
-    Ok(builder.build()?)
-}
-
 const SMALL: &str = "mode tree
 cable A                S                 0      500      100               50000
 type 0 cables 1 length 500 cost 50000
@@ -70,7 +62,7 @@ optimal 50000
 #[test]
 fn one_cable(rt: HostRuntime) -> Result<(), Fail> {
     let alloc = rt.alloc();
-    let site = small_site(alloc)?;
+    let site = site_of(alloc, FIRST)?;
     let text = reported(&rt, alloc, &site, &[(1, 0, 0)], Claim::Optimal(50000), &[])?;
     assert!(&rt; text.as_slice() == SMALL.as_bytes());
     Ok(())
@@ -79,7 +71,7 @@ fn one_cable(rt: HostRuntime) -> Result<(), Fail> {
 #[test]
 fn a_push_that_fails(rt: HostRuntime) -> Result<(), Fail> {
     let alloc = rt.alloc();
-    let site = small_site(alloc)?;
+    let site = site_of(alloc, FIRST)?;
     let cables = [(1, 0, 0)];
     let text = reported(&rt, alloc, &site, &cables, Claim::Infeasible, &[2])?;
     assert!(&rt; text.as_slice() == b"mode tree\n!".as_slice());
@@ -87,21 +79,8 @@ fn a_push_that_fails(rt: HostRuntime) -> Result<(), Fail> {
 }
 
 /// Strings of two types into two substations, one of them round a bend.
-fn large_site(alloc: Global) -> Result<Site, Fail> {
-    let mut builder = SiteBuilder::new(alloc, Version::One, Mode::Strings)?;
-    builder.add_type(150, 10, None)?;
-    builder.add_type(400, 30, None)?;
-    builder.add_type(9000, 1000000, None)?;
-    builder.add_point(b"North", 0, 0, RawKind::Substation(2, 400))?;
-    builder.add_point(b"South", 0, -10000, RawKind::Substation(1, 1000))?;
-    builder.add_point(b"A", 0, 1000, RawKind::Turbine(100))?;
-    builder.add_point(b"B", 0, 2000, RawKind::Turbine(150))?;
-    builder.add_point(b"Turbine-16.bytes", 3000, -10000, RawKind::Turbine(150))?;
-    builder.add_point(b"Corner", 3000, 0, RawKind::Bend)?;
-    builder.add_point(b"D", 1000, -10000, RawKind::Turbine(1000))?;
-    builder.add_pair(b"D", b"South", Some(1000000000000))?;
-    Ok(builder.build()?)
-}
+const LARGE_SITE: &str =
+    "site 1\nmode strings\ntype 150 10\ntype 400 30\ntype 9000 1000000\nsubstation North 0 0 2 400\nsubstation South 0 -10000 1 1000\nturbine A 0 1000 100\nturbine B 0 2000 150\nturbine Turbine-16.bytes 3000 -10000 150\nbend Corner 3000 0\nturbine D 1000 -10000 1000\ncharge D South 1000000000000\nend site\n";
 
 const LARGE: &str = "mode strings
 cable A                North             1     1000      250               30000
@@ -120,7 +99,7 @@ gap 1001000170000 7
 #[test]
 fn strings_of_three_types(rt: HostRuntime) -> Result<(), Fail> {
     let alloc = rt.alloc();
-    let site = large_site(alloc)?;
+    let site = site_of(alloc, LARGE_SITE)?;
     let cables = [(2, 0, 1), (3, 2, 0), (4, 5, 0), (5, 0, 0), (6, 1, 2)];
     let claim = Claim::Gap {
         cost: 1001000170000,
@@ -134,7 +113,7 @@ fn strings_of_three_types(rt: HostRuntime) -> Result<(), Fail> {
 #[test]
 fn no_cable(rt: HostRuntime) -> Result<(), Fail> {
     let alloc = rt.alloc();
-    let site = small_site(alloc)?;
+    let site = site_of(alloc, FIRST)?;
     let layout = Layout::new(alloc)?;
     let text = text_of(alloc, &site, &layout, Claim::Infeasible, &[])?;
     assert!(&rt; text.as_slice() == NOTHING.as_bytes());
