@@ -26,7 +26,8 @@ use Rattle.site_model.specs.declared.fault.SiteFault.{SiteFault}
 use Rattle.site_model.specs.declared.fault.SiteFault.TheVariants.{Refused as RefusedSite, Read as SiteRead, Memory as SiteMemory}
 use Rattle.proof_laws.proofs.FullLemma.{within-turbine}
 use Rattle.proof_laws.proofs.Sound.{says-document}
-use Rattle.plan_report.specs.Reported.{IsReported, NamesPoint}
+use Rattle.plan_report.specs.Reported.{IsReported}
+use Rattle.site_text.specs.Verdict.{NamesPoint}
 use Rattle.plan_report.proofs.Legal.{legal_reported, grown_reported}
 use Rattle.document_check.specs.declared.document.Accepted.{Accepted}
 use Rattle.document_check.specs.declared.document.DocumentFault.{DocumentFault}
@@ -77,7 +78,7 @@ bytes_are s before middle cables claim told gives h is =
 
 -- a site that is read, and what is accepted behind it
 pub document_checked : (input : Effect) (s : Site) (before middle : Option (List ℕ)) (accepted : Accepted) → IsValid s → GivesFront before middle (site_lines s)
-    → ((bytes : List ℕ) → Held input bytes → before ≡ Some bytes) → IsAcceptedBehind s middle accepted.layout accepted.claim → IsAtEnd input.after → ReadsDocument input (Ok (s, accepted))
+    → ((bytes : List ℕ) → Held input bytes → before ≡ Some bytes) → IsAcceptedBehind s middle accepted.layout accepted.claim → IsAtEnd input.after.bytes → ReadsDocument input (Ok (s, accepted))
 unfolding yes_behind
 document_checked input s before middle accepted valid gives told h ended =
     let yes = yes_behind s middle accepted.layout accepted.claim valid h in (

@@ -8,7 +8,7 @@ use Rattle.cable_definitions.specs.Site.{Site}
 use Rattle.cable_definitions.specs.Refusal.{DocLine, LayoutLine, Reader, reader_at, AtJudged, AtAnyCables, may_end, ReadsLines}
 use Rattle.cable_definitions.specs.declared.claim.Refusal.{Refusal}
 use Rattle.cable_text.specs.Stream.{IsAtEnd}
-use Rattle.cable_text.specs.Lines.{ahead}
+use Rattle.cable_text.specs.Lines.{to_come}
 use Rattle.site_input.proofs.Forms.{left_at_end}
 use Rattle.proof_text.specs.declared.fault.ItemFault.{ItemFault}
 use Rattle.proof_text.specs.declared.fault.ItemFault.TheVariants.{Refused, Read}
@@ -73,7 +73,7 @@ end_refused s before middle after lines first last count cables x line read size
     (omega (arith, many, all)) h
 
 -- the bytes to come are those that were to come, and none were
-pub none_left : (pending : List ℕ) (left old : Option (List ℕ)) → IsAtEnd old → ahead pending left ≡ old → IsAtEnd left
+pub none_left : (pending : List ℕ) (left old : Option (List ℕ)) → IsAtEnd old → to_come pending left ≡ old → IsAtEnd left
 none_left pending left old h e = left_at_end pending left (subst IsAtEnd (sym e) h)
 
 -- the same of the answer of the cables, and of what stands behind them
@@ -94,7 +94,7 @@ end_fails (Err (Refused x)) s before middle after lines first last count cables 
     end_refused s before middle after lines first last count cables x line read size number some none (h s (at_cables 0 cables) refl)
 end_fails (Err Read) s before middle after lines first last count cables line read size number some none h = h
 
-pub end_found : {A E : Type 0} → (result : Result A E) (pending : List ℕ) (left old : Option (List ℕ)) → OnOk result (IsAtEnd old) → OnOk result (ahead pending left ≡ old) → OnOk result (IsAtEnd left)
+pub end_found : {A E : Type 0} → (result : Result A E) (pending : List ℕ) (left old : Option (List ℕ)) → OnOk result (IsAtEnd old) → OnOk result (to_come pending left ≡ old) → OnOk result (IsAtEnd left)
 end_found (Ok a) pending left old h e = none_left pending left old h e
 end_found (Err e) pending left old h k = h
 

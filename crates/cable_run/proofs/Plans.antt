@@ -24,7 +24,8 @@ use Rattle.layout_meaning.proofs.Costing.{cost_small, load_small_at}
 use Rattle.document_laws.proofs.Counting.{cables-most}
 use Rattle.proof_laws.proofs.FullLemma.{within-turbine}
 use Rattle.proof_laws.proofs.Sound.{sound-accepted, says-sound}
-use Rattle.proof_lines.specs.Written.{EndsAtPoints, NamesPoint, layout_lines}
+use Rattle.proof_lines.specs.Written.{EndsAtPoints, layout_lines}
+use Rattle.site_text.specs.Verdict.{NamesPoint}
 use Rattle.plan_search.specs.Found.{IsOutcome, FindsPlan, WritesPart, HasCost}
 use Rattle.plan_search.specs.declared.finding.SearchFault.{SearchFault}
 use Rattle.plan_search.specs.declared.finding.SearchFault.TheVariants.{Write as SearchWrite, Memory as SearchMemory}
@@ -116,21 +117,21 @@ claim_in_range s arcs n kept cables Infeasible valid o = tt
 -- ---- where a plan stops early
 -- what stands before the items, and a first part of these
 begun : (input out : Effect) (s : Site) (n lanes : ℕ) (arcs : List Arc) (items : List Item) (kept : ProofState) → IsRead input s → AreArcs s arcs → IsAccepted s arcs n items kept
-    → AppendsPrefix out.before out.after (head_text s n ++ concat (map item_lines items)) → PrintsPart n lanes input out
+    → AppendsPrefix out.before.bytes out.after.bytes (head_text s n ++ concat (map item_lines items)) → PrintsPart n lanes input out
 begun input out s n lanes arcs items kept read are accepted part =
     let started : IsPlanBegun s n (head_text s n ++ concat (map item_lines items)) =
     record { arcs = arcs; are_arcs = are; items = items; kept = kept; accepted = accepted; text_is = refl } in
     inr (s, head_text s n ++ concat (map item_lines items), read, inl started, part)
 
 -- a first part of what stands before the items
-pub head_part : (input out : Effect) (s : Site) (n lanes : ℕ) (arcs : List Arc) → IsRead input s → AreArcs s arcs → AppendsPrefix out.before out.after (head_text s n) → PrintsPart n lanes input out
-head_part input out s n lanes arcs read are part = begun input out s n lanes arcs [] empty_state read are refl (AppendsPrefix-front out.before out.after (head_text s n) [] part)
+pub head_part : (input out : Effect) (s : Site) (n lanes : ℕ) (arcs : List Arc) → IsRead input s → AreArcs s arcs → AppendsPrefix out.before.bytes out.after.bytes (head_text s n) → PrintsPart n lanes input out
+head_part input out s n lanes arcs read are part = begun input out s n lanes arcs [] empty_state read are refl (AppendsPrefix-front out.before.bytes out.after.bytes (head_text s n) [] part)
 
-pub items_part : (input out : Effect) (middle : Option (List ℕ)) (s : Site) (n lanes : ℕ) (arcs : List Arc) → IsRead input s → AreArcs s arcs → Appends out.before middle (head_text s n)
-    → WritesPart s arcs n middle out.after → PrintsPart n lanes input out
+pub items_part : (input out : Effect) (middle : Option (List ℕ)) (s : Site) (n lanes : ℕ) (arcs : List Arc) → IsRead input s → AreArcs s arcs → Appends out.before.bytes middle (head_text s n)
+    → WritesPart s arcs n middle out.after.bytes → PrintsPart n lanes input out
 items_part input out middle s n lanes arcs read are first part =
     begun input out s n lanes arcs part.items part.kept read are part.accepted
-    (AppendsPrefix-then out.before middle out.after (head_text s n) (concat (map item_lines part.items)) first part.written)
+    (AppendsPrefix-then out.before.bytes middle out.after.bytes (head_text s n) (concat (map item_lines part.items)) first part.written)
 
 -- ---- plans
 -- what was found comes from a search
@@ -184,25 +185,25 @@ plan_with_arcs middle later s n lanes arcs cables claim least most valid are fou
 
 -- what stands before the items and these, and a first part of what stands behind them
 pub tail_part : (input out : Effect) (middle later : Option (List ℕ)) (s : Site) (n lanes : ℕ) (arcs : List Arc) (cables : List Cable) (claim : Claim) → 1 ≤ n → n ≤ 50000 → IsRead input s → AreArcs s arcs
-    → Appends out.before middle (head_text s n) → FindsPlan s arcs n lanes middle later cables claim → AppendsPrefix later out.after (tail_text s cables claim) → PrintsPart n lanes input out
+    → Appends out.before.bytes middle (head_text s n) → FindsPlan s arcs n lanes middle later cables claim → AppendsPrefix later out.after.bytes (tail_text s cables claim) → PrintsPart n lanes input out
 tail_part input out middle later s n lanes arcs cables claim least most read are first found part =
-    let parts = AppendsPrefix-then out.before later out.after (head_text s n ++ concat (map item_lines found.core.items)) (tail_text s cables claim)
-    (Appends-then out.before middle later (head_text s n) (concat (map item_lines found.core.items)) first found.written) part in
-    let whole = subst (λ (text : List ℕ). AppendsPrefix out.before out.after text) (sym (document_parts s n found.core.items cables claim)) parts in
+    let parts = AppendsPrefix-then out.before.bytes later out.after.bytes (head_text s n ++ concat (map item_lines found.core.items)) (tail_text s cables claim)
+    (Appends-then out.before.bytes middle later (head_text s n) (concat (map item_lines found.core.items)) first found.written) part in
+    let whole = subst (λ (text : List ℕ). AppendsPrefix out.before.bytes out.after.bytes text) (sym (document_parts s n found.core.items cables claim)) parts in
     inr (s, document_text s n found.core.items cables claim, read, inr (claim, plan_found middle later s n lanes arcs cables claim least most read.valid are found), whole)
 
 -- the whole text
 pub printed_whole : (input out : Effect) (middle later : Option (List ℕ)) (s : Site) (n lanes : ℕ) (arcs : List Arc) (cables : List Cable) (claim : Claim) → 1 ≤ n → n ≤ 50000 → IsRead input s → AreArcs s arcs
-    → Appends out.before middle (head_text s n) → FindsPlan s arcs n lanes middle later cables claim → Appends later out.after (tail_text s cables claim) → PrintsPlan n lanes input out claim
+    → Appends out.before.bytes middle (head_text s n) → FindsPlan s arcs n lanes middle later cables claim → Appends later out.after.bytes (tail_text s cables claim) → PrintsPlan n lanes input out claim
 printed_whole input out middle later s n lanes arcs cables claim least most read are first found last =
-    let all = Appends-then out.before later out.after (head_text s n ++ concat (map item_lines found.core.items)) (tail_text s cables claim)
-    (Appends-then out.before middle later (head_text s n) (concat (map item_lines found.core.items)) first found.written) last in
+    let all = Appends-then out.before.bytes later out.after.bytes (head_text s n ++ concat (map item_lines found.core.items)) (tail_text s cables claim)
+    (Appends-then out.before.bytes middle later (head_text s n) (concat (map item_lines found.core.items)) first found.written) last in
     record {
       site = s;
       printed = document_text s n found.core.items cables claim;
       read = read;
       plan = plan_found middle later s n lanes arcs cables claim least most read.valid are found;
-      wrote = subst (λ (bytes : List ℕ). Appends out.before out.after bytes) (sym (document_parts s n found.core.items cables claim)) all;
+      wrote = subst (λ (bytes : List ℕ). Appends out.before.bytes out.after.bytes bytes) (sym (document_parts s n found.core.items cables claim)) all;
     }
 
 search_ends : (n lanes : ℕ) (input out : Effect) (fault : SearchFault) → (fault ≡ SearchWrite → Faulted out) → PrintsPart n lanes input out → PlanGives n lanes input out (Err (search_fault fault))

@@ -4,16 +4,15 @@ ghost use Rattle.std.specs.Prelude.{◌≡◌};
 ghost use Rattle.std.specs.Fmt.{decimal};
 ghost use Rattle.cable_definitions.specs.Answers.{yes_line};
 ghost use Rattle.cable_text.specs.Stream.{Writes};
-ghost use Rattle.site_text.specs.Line.{field_text};
+ghost use Rattle.cable_text.specs.Fields.{field_text};
 ghost use Rattle.run_definitions.specs.Effect.{effect};
 ghost use Rattle.cable_run.specs.Steps.{CheckGives};
 
 use crate::document::read_checked;
 use crate::fault::Fault;
 use cable_definitions::claim::Claim;
-use cable_text::{Failed, Sink, Source};
+use cable_text::{Failed, Field, Sink, Source, push_line};
 use run_definitions::ending::Ending;
-use site_text::{Field, push_line};
 use std::alloc::Global;
 
 /// Checks a document, and says yes where it is accepted.
@@ -22,7 +21,7 @@ pub(crate) fn check<S: Source, O: Sink>(
     input: &mut S,
     out: &mut O,
 ) -> Result<Ending, Fault>
-    ensures { CheckGives (effect S.left S.faults input.old input.new) (effect O.taken O.faults out.old out.new) result }
+    ensures { CheckGives (effect (S.state input.old) (S.state input.new)) (effect (O.state out.old) (O.state out.new)) result }
 {
     let (_site, accepted) = read_checked(alloc, input)?;
     write_yes(accepted.claim, out)?;
@@ -31,7 +30,7 @@ pub(crate) fn check<S: Source, O: Sink>(
 
 /// Appends the yes to a claim.
 fn write_yes<O: Sink>(claim: Claim, out: &mut O) -> Result<(), Failed>
-    ensures { Writes result (O.taken out.old) (O.taken out.new) (O.faults out.old) (O.faults out.new) (yes_line claim) }
+    ensures { Writes result (O.state out.old) (O.state out.new) (yes_line claim) }
 {
     let cost_word = Field::Word(b"cost");
     let bound_word = Field::Word(b"bound");

@@ -16,7 +16,7 @@ pub(crate) fn read_checked<S: Source>(
     alloc: Global,
     input: &mut S,
 ) -> Result<(Site, Accepted), Fault>
-    ensures { ReadsDocument (effect S.left S.faults input.old input.new) result }
+    ensures { ReadsDocument (effect (S.state input.old) (S.state input.new)) result }
 {
     let mut lines = Lines::new(alloc)?;
     let site = match read_site(alloc, &mut lines, input) {

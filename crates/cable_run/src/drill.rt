@@ -5,7 +5,7 @@ ghost use Rattle.std.specs.Fmt.{decimal};
 ghost use Rattle.cable_definitions.specs.Arcs.{AreArcs};
 ghost use Rattle.cable_definitions.specs.Drill.{drill_line};
 ghost use Rattle.cable_text.specs.Stream.{Writes};
-ghost use Rattle.proof_lines.specs.Written.{NamesPoint};
+ghost use Rattle.site_text.specs.Verdict.{NamesPoint};
 ghost use Rattle.run_definitions.specs.Effect.{effect};
 ghost use Rattle.plan_search.specs.Found.{FindsPlan};
 ghost use Rattle.cable_run.specs.Steps.{DrillGives};
@@ -18,9 +18,9 @@ use cable_text::{Failed, LineBuffer, Sink, push_number};
 use candidate_cables::Arcs;
 use drill_site::drill_site;
 use plan_search::{Plan, SearchFault, search};
-use proof_lines::write_verdict;
 use run_definitions::ending::Ending;
 use site_model::Site;
+use site_text::write_verdict;
 use std::alloc::{AllocError, Global};
 
 /// What a summary tells besides the claim: the number that the site was generated from, how many turbines it
@@ -40,9 +40,7 @@ struct Unkept;
 impl Sink for Unkept {
     ghost use Rattle.std.specs.Prelude.{None};
 
-    ghost taken = { λ _. None };
-
-    ghost faults = { λ _. 0 };
+    ghost state = { λ _. record { bytes = None; faults = 0 } };
 
     fn push(&mut self, _bytes: &[u8]) -> Result<(), Failed> {
         Ok(())
@@ -61,7 +59,7 @@ pub(crate) fn drill<O: Sink>(
     requires few_turbines { turbines ≤ 200 }
     requires some { 1 ≤ budget }
     requires most { budget ≤ 50000 }
-    ensures { DrillGives k turbines budget (effect O.taken O.faults out.old out.new) result }
+    ensures { DrillGives k turbines budget (effect (O.state out.old) (O.state out.new)) result }
 {
     let site = drill_site(alloc, k, turbines)?;
     // What a summary promises speaks of a valid site, which the site's points tell that it is.
@@ -101,7 +99,7 @@ fn write_summary<O: Sink>(
     out: &mut O,
 ) -> Result<(), Failed>
     requires { NamesPoint site.now claim }
-    ensures { Writes result (O.taken out.old) (O.taken out.new) (O.faults out.old) (O.faults out.new)
+    ensures { Writes result (O.state out.old) (O.state out.new)
         (drill_line site.now drilled.k drilled.turbines drilled.budget drilled.arcs claim) }
 {
     let mut buffer = LineBuffer::new();
@@ -120,7 +118,7 @@ fn push_summary<O: Sink>(
     out: &mut O,
 ) -> Result<(), Failed>
     requires { NamesPoint site.now claim }
-    ensures { Writes result (O.taken out.old) (O.taken out.new) (O.faults out.old) (O.faults out.new)
+    ensures { Writes result (O.state out.old) (O.state out.new)
         (drill_line site.now drilled.k drilled.turbines drilled.budget drilled.arcs claim) }
 {
     push_front(drilled, out)?;
@@ -129,7 +127,7 @@ fn push_summary<O: Sink>(
 
 /// Appends what stands before the verdict.
 fn push_front<O: Sink>(drilled: Drilled, out: &mut O) -> Result<(), Failed>
-    ensures { Writes result (O.taken out.old) (O.taken out.new) (O.faults out.old) (O.faults out.new)
+    ensures { Writes result (O.state out.old) (O.state out.new)
         (summary_front drilled.k drilled.turbines drilled.budget drilled.arcs) }
 {
     push_counted(b"drill ", drilled.k, out)?;
@@ -141,7 +139,7 @@ fn push_front<O: Sink>(drilled: Drilled, out: &mut O) -> Result<(), Failed>
 
 /// Appends this text and a number behind it.
 fn push_counted<O: Sink>(before: &[u8], number: u64, out: &mut O) -> Result<(), Failed>
-    ensures { Writes result (O.taken out.old) (O.taken out.new) (O.faults out.old) (O.faults out.new) (before.now ++ decimal number) }
+    ensures { Writes result (O.state out.old) (O.state out.new) (before.now ++ decimal number) }
 {
     out.push(before)?;
     push_number(i128::from(number), out)

@@ -11,11 +11,11 @@ ghost use Rattle.cable_run.specs.Steps.{JudgeGives};
 
 use crate::fault::Fault;
 use crate::layout::read_site_and_layout;
-use cable_text::{Failed, Sink, Source};
+use cable_text::{Failed, Field, Sink, Source, push_line};
 use layout_meaning::{Layout, Rule, Verdict, judge as judge_layout};
 use run_definitions::ending::Ending;
 use site_model::Site;
-use site_text::{Field, name_of, push_line};
+use site_text::name_of;
 use std::alloc::Global;
 
 /// Judges a layout by the rules, and answers in one line.
@@ -24,7 +24,7 @@ pub(crate) fn judge<S: Source, O: Sink>(
     input: &mut S,
     out: &mut O,
 ) -> Result<Ending, Fault>
-    ensures { JudgeGives (effect S.left S.faults input.old input.new) (effect O.taken O.faults out.old out.new) result }
+    ensures { JudgeGives (effect (S.state input.old) (S.state input.new)) (effect (O.state out.old) (O.state out.new)) result }
 {
     let (site, layout) = read_site_and_layout(alloc, input)?;
     let verdict = judge_layout(&site, &layout);
@@ -42,7 +42,7 @@ fn write_verdict<O: Sink>(
     requires listed { All (HasNumbersOf site.now) layout.now }
     requires verdict { IsVerdict site.now layout.now verdict }
     ensures { (text : List ℕ) × IsJudgement site.now layout.now text
-        × Writes result (O.taken out.old) (O.taken out.new) (O.faults out.old) (O.faults out.new) text }
+        × Writes result (O.state out.old) (O.state out.new) text }
 {
     match verdict {
         Verdict::Legal(cost) => write_legal(cost, out),
@@ -52,7 +52,7 @@ fn write_verdict<O: Sink>(
 
 /// Appends that the layout is legal, with its cost.
 fn write_legal<O: Sink>(cost: u64, out: &mut O) -> Result<(), Failed>
-    ensures { Writes result (O.taken out.old) (O.taken out.new) (O.faults out.old) (O.faults out.new) (legal_line cost) }
+    ensures { Writes result (O.state out.old) (O.state out.new) (legal_line cost) }
 {
     push_line(b"legal", &[Field::Number(i128::from(cost))], out)
 }
@@ -61,7 +61,7 @@ fn write_legal<O: Sink>(cost: u64, out: &mut O) -> Result<(), Failed>
 fn write_broken<O: Sink>(site: &Site, rule: Rule, a: u32, b: u32, out: &mut O) -> Result<(), Failed>
     requires first { a < length site.now.points }
     requires second { b < length site.now.points }
-    ensures { Writes result (O.taken out.old) (O.taken out.new) (O.faults out.old) (O.faults out.new) (broken_line site.now rule a b) }
+    ensures { Writes result (O.state out.old) (O.state out.new) (broken_line site.now rule a b) }
 {
     let points = site.points();
     let first = Field::Word(name_of(points, a));

@@ -2,7 +2,7 @@
 
 ghost use Rattle.std.specs.Prelude.{◌≡◌, ◌≤◌, [], All, None, OnOk};
 ghost use Rattle.cable_definitions.specs.Refusal.{reader_at, AtJudged};
-ghost use Rattle.cable_text.specs.Stream.{Rose, IsAtEnd};
+ghost use Rattle.cable_text.specs.Stream.{FaultsRose, FaultsOnlyRise, IsAtEnd};
 ghost use Rattle.cable_text.specs.Lines.{ahead};
 ghost use Rattle.proof_text.specs.Reading.{RefusedAfter, IfRefused, IfRead};
 ghost use Rattle.proof_text.specs.Cables.{HasNumbersOf};
@@ -22,7 +22,7 @@ pub(crate) fn read_site_and_layout<S: Source>(
     alloc: Global,
     input: &mut S,
 ) -> Result<(Site, Layout), Fault>
-    ensures { ReadsLayout (effect S.left S.faults input.old input.new) result }
+    ensures { ReadsLayout (effect (S.state input.old) (S.state input.new)) result }
 {
     let mut lines = Lines::new(alloc)?;
     let mut layout = Layout::new(alloc)?;
@@ -40,12 +40,12 @@ fn read_cables<S: Source>(
 ) -> Result<(), ItemFault>
     requires kept { lines.old.kept ≡ None }
     requires empty { layout.old ≡ [] }
-    ensures reads { OnOk result (ReadsToEnd site.now (ahead lines.old.pending (S.left input.old)) layout.new) }
+    ensures reads { OnOk result (ReadsToEnd site.now (ahead lines.old (S.state input.old)) layout.new) }
     ensures listed { OnOk result (All (HasNumbersOf site.now) layout.new) }
-    ensures whole { OnOk result (IsAtEnd (S.left input.new)) }
-    ensures refused { IfRefused result (λ refusal. RefusedAfter site.now (reader_at AtJudged) (ahead lines.old.pending (S.left input.old)) lines.old.lines refusal) }
-    ensures read { IfRead result (Rose (S.faults input.old) (S.faults input.new)) }
-    ensures count { S.faults input.old ≤ S.faults input.new }
+    ensures whole { OnOk result (IsAtEnd (S.state input.new).bytes) }
+    ensures refused { IfRefused result (λ refusal. RefusedAfter site.now (reader_at AtJudged) (ahead lines.old (S.state input.old)) lines.old.lines refusal) }
+    ensures read { IfRead result (FaultsRose (S.state input.old) (S.state input.new)) }
+    ensures count { FaultsOnlyRise (S.state input.old) (S.state input.new) }
 {
     let count = match read_count(lines, input) {
         Ok(count) => count,

@@ -2,21 +2,20 @@
 
 ghost use Rattle.std.specs.Prelude.{◌≡◌, ◌⊎◌, ◌≤◌};
 ghost use Rattle.cable_definitions.specs.Answers.{usage_note, site_note, document_note, write_fault_note};
-ghost use Rattle.cable_text.specs.Stream.{Appends, Writes};
+ghost use Rattle.cable_text.specs.Stream.{Appends, Writes, FaultsOnlyRise};
 ghost use Rattle.run_definitions.specs.Effect.{effect, Noted, NoteFailed};
 ghost use Rattle.cable_run.specs.Noted.{IsNoted, EndsAs};
 
 use crate::fault::Fault;
 use cable_definitions::claim::Refusal;
-use cable_text::{Failed, Sink};
+use cable_text::{Failed, Field, Sink, push_line};
 use run_definitions::ending::Ending;
 use site_model::SiteCode;
-use site_text::{Field, push_line};
 
 /// Notes that the words are no command.
 pub(crate) fn refuse_words<E: Sink>(note: &mut E) -> Ending
-    ensures { ((result ≡ Ending.Usage) × Appends (E.taken note.old) (E.taken note.new) usage_note)
-        ⊎ ((result ≡ Ending.WriteFault) × NoteFailed (effect E.taken E.faults note.old note.new) usage_note) }
+    ensures { ((result ≡ Ending.Usage) × Appends (E.state note.old).bytes (E.state note.new).bytes usage_note)
+        ⊎ ((result ≡ Ending.WriteFault) × NoteFailed (effect (E.state note.old) (E.state note.new)) usage_note) }
 {
     match note.push(b"usage: plan N [LANES], check, site, judge, report, drill K TURBINES N\n") {
         Ok(()) => Ending::Usage,
@@ -26,7 +25,7 @@ pub(crate) fn refuse_words<E: Sink>(note: &mut E) -> Ending
 
 /// How the run of a command ends that gave this: as its work says, or as its fault does, which is noted.
 pub(crate) fn end_of<E: Sink>(gave: Result<Ending, Fault>, note: &mut E) -> Ending
-    ensures { EndsAs gave (effect E.taken E.faults note.old note.new) result }
+    ensures { EndsAs gave (effect (E.state note.old) (E.state note.new)) result }
 {
     match gave {
         Ok(ending) => ending,
@@ -36,7 +35,7 @@ pub(crate) fn end_of<E: Sink>(gave: Result<Ending, Fault>, note: &mut E) -> Endi
 
 /// Notes why a command didn't do its work, and answers how the run ends then.
 fn note_fault<E: Sink>(fault: Fault, note: &mut E) -> Ending
-    ensures { IsNoted fault (effect E.taken E.faults note.old note.new) result }
+    ensures { IsNoted fault (effect (E.state note.old) (E.state note.new)) result }
 {
     match fault {
         Fault::OfSite { code, place } => refuse_site(code, place, note),
@@ -49,8 +48,8 @@ fn note_fault<E: Sink>(fault: Fault, note: &mut E) -> Ending
 
 /// Notes the refusal of a site.
 fn refuse_site<E: Sink>(code: SiteCode, place: u64, note: &mut E) -> Ending
-    ensures { ((result ≡ Ending.SiteRefused) × Appends (E.taken note.old) (E.taken note.new) (site_note code place))
-        ⊎ ((result ≡ Ending.WriteFault) × NoteFailed (effect E.taken E.faults note.old note.new) (site_note code place)) }
+    ensures { ((result ≡ Ending.SiteRefused) × Appends (E.state note.old).bytes (E.state note.new).bytes (site_note code place))
+        ⊎ ((result ≡ Ending.WriteFault) × NoteFailed (effect (E.state note.old) (E.state note.new)) (site_note code place)) }
 {
     match write_site_note(code, place, note) {
         Ok(()) => Ending::SiteRefused,
@@ -60,8 +59,8 @@ fn refuse_site<E: Sink>(code: SiteCode, place: u64, note: &mut E) -> Ending
 
 /// Notes the refusal of a document.
 fn refuse_document<E: Sink>(refusal: Refusal, note: &mut E) -> Ending
-    ensures { ((result ≡ Ending.DocumentRefused) × Appends (E.taken note.old) (E.taken note.new) (document_note refusal.cause refusal.line))
-        ⊎ ((result ≡ Ending.WriteFault) × NoteFailed (effect E.taken E.faults note.old note.new) (document_note refusal.cause refusal.line)) }
+    ensures { ((result ≡ Ending.DocumentRefused) × Appends (E.state note.old).bytes (E.state note.new).bytes (document_note refusal.cause refusal.line))
+        ⊎ ((result ≡ Ending.WriteFault) × NoteFailed (effect (E.state note.old) (E.state note.new)) (document_note refusal.cause refusal.line)) }
 {
     match write_document_note(refusal, note) {
         Ok(()) => Ending::DocumentRefused,
@@ -71,7 +70,7 @@ fn refuse_document<E: Sink>(refusal: Refusal, note: &mut E) -> Ending
 
 /// Appends the note on a refused site.
 fn write_site_note<E: Sink>(code: SiteCode, place: u64, note: &mut E) -> Result<(), Failed>
-    ensures { Writes result (E.taken note.old) (E.taken note.new) (E.faults note.old) (E.faults note.new) (site_note code place) }
+    ensures { Writes result (E.state note.old) (E.state note.new) (site_note code place) }
 {
     let refused = Field::Word(b"refused:");
     let at = Field::Number(i128::from(place));
@@ -84,7 +83,7 @@ fn write_site_note<E: Sink>(code: SiteCode, place: u64, note: &mut E) -> Result<
 
 /// Appends the note on a refused document.
 fn write_document_note<E: Sink>(refusal: Refusal, note: &mut E) -> Result<(), Failed>
-    ensures { Writes result (E.taken note.old) (E.taken note.new) (E.faults note.old) (E.faults note.new) (document_note refusal.cause refusal.line) }
+    ensures { Writes result (E.state note.old) (E.state note.new) (document_note refusal.cause refusal.line) }
 {
     let refused = Field::Word(b"refused:");
     let line = Field::Number(i128::from(refusal.line));
@@ -104,8 +103,8 @@ fn write_document_note<E: Sink>(refusal: Refusal, note: &mut E) -> Result<(), Fa
 /// Notes a write fault, whatever comes of it.
 fn note_write_fault<E: Sink>(note: &mut E) -> Ending
     ensures ending { result ≡ Ending.WriteFault }
-    ensures note { Noted (effect E.taken E.faults note.old note.new) write_fault_note }
-    ensures count { E.faults note.old ≤ E.faults note.new }
+    ensures note { Noted (effect (E.state note.old) (E.state note.new)) write_fault_note }
+    ensures count { FaultsOnlyRise (E.state note.old) (E.state note.new) }
 {
     note_once(b"write fault\n", Ending::WriteFault, note)
 }
@@ -113,8 +112,8 @@ fn note_write_fault<E: Sink>(note: &mut E) -> Ending
 /// Pushes a note once, whatever comes of it.
 fn note_once<E: Sink>(text: &[u8], ending: Ending, note: &mut E) -> Ending
     ensures ending { result ≡ ending }
-    ensures note { Noted (effect E.taken E.faults note.old note.new) text.now }
-    ensures count { E.faults note.old ≤ E.faults note.new }
+    ensures note { Noted (effect (E.state note.old) (E.state note.new)) text.now }
+    ensures count { FaultsOnlyRise (E.state note.old) (E.state note.new) }
 {
     let _ = note.push(text);
     ending

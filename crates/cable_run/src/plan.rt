@@ -4,7 +4,8 @@ ghost use Rattle.std.specs.Prelude.{◌≤◌, [], ◌∷◌, ◌++◌, codes, A
 ghost use Rattle.std.specs.Fmt.{decimal};
 ghost use Rattle.cable_definitions.specs.Text.{line, site_lines, claim_line};
 ghost use Rattle.cable_text.specs.Stream.{Writes};
-ghost use Rattle.proof_lines.specs.Written.{EndsAtPoints, NamesPoint, layout_lines};
+ghost use Rattle.proof_lines.specs.Written.{EndsAtPoints, layout_lines};
+ghost use Rattle.site_text.specs.Verdict.{NamesPoint};
 ghost use Rattle.run_definitions.specs.Effect.{effect};
 ghost use Rattle.run_definitions.specs.Ends.{EndsWith};
 ghost use Rattle.cable_run.specs.Steps.{PlanGives};
@@ -33,7 +34,7 @@ pub(crate) fn plan<S: Source, O: Sink>(
     requires most { budget ≤ 50000 }
     requires some_lanes { 1 ≤ lanes }
     requires most_lanes { lanes ≤ 16 }
-    ensures { PlanGives budget lanes (effect S.left S.faults input.old input.new) (effect O.taken O.faults out.old out.new) result }
+    ensures { PlanGives budget lanes (effect (S.state input.old) (S.state input.new)) (effect (O.state out.old) (O.state out.new)) result }
 {
     let site = read_site(alloc, input)?;
     let arcs = Arcs::new(alloc, &site)?;
@@ -45,7 +46,7 @@ pub(crate) fn plan<S: Source, O: Sink>(
 
 /// Appends what stands before the items: the site's lines and the budget.
 fn write_head<O: Sink>(site: &Site, budget: u32, out: &mut O) -> Result<(), Failed>
-    ensures { Writes result (O.taken out.old) (O.taken out.new) (O.faults out.old) (O.faults out.new)
+    ensures { Writes result (O.state out.old) (O.state out.new)
         (site_lines site.now ++ line (codes "budget" ∷ decimal budget ∷ [])) }
 {
     write_site(site, out)?;
@@ -56,7 +57,7 @@ fn write_head<O: Sink>(site: &Site, budget: u32, out: &mut O) -> Result<(), Fail
 fn write_tail<O: Sink>(site: &Site, plan: &Plan, out: &mut O) -> Result<(), Failed>
     requires cables { All (EndsAtPoints site.now) plan.now.layout }
     requires claim { NamesPoint site.now plan.now.claim }
-    ensures { Writes result (O.taken out.old) (O.taken out.new) (O.faults out.old) (O.faults out.new)
+    ensures { Writes result (O.state out.old) (O.state out.new)
         (layout_lines site.now plan.now.layout ++ (claim_line site.now plan.now.claim ++ line (codes "end" ∷ codes "document" ∷ []))) }
 {
     write_layout(site, &plan.layout, out)?;

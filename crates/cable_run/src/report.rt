@@ -16,7 +16,7 @@ pub(crate) fn report<S: Source, O: Sink>(
     input: &mut S,
     out: &mut O,
 ) -> Result<Ending, Fault>
-    ensures { ReportGives (effect S.left S.faults input.old input.new) (effect O.taken O.faults out.old out.new) result }
+    ensures { ReportGives (effect (S.state input.old) (S.state input.new)) (effect (O.state out.old) (O.state out.new)) result }
 {
     let (site, accepted) = read_checked(alloc, input)?;
     write_report(&site, &accepted.layout, accepted.claim, out)?;

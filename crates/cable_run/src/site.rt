@@ -16,7 +16,7 @@ pub(crate) fn site<S: Source, O: Sink>(
     input: &mut S,
     out: &mut O,
 ) -> Result<Ending, Fault>
-    ensures { SiteGives (effect S.left S.faults input.old input.new) (effect O.taken O.faults out.old out.new) result }
+    ensures { SiteGives (effect (S.state input.old) (S.state input.new)) (effect (O.state out.old) (O.state out.new)) result }
 {
     let site = read_front(alloc, input)?;
     write_site(&site, out)?;

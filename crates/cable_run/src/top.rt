@@ -64,8 +64,8 @@ pub fn run<S: Source, O: Sink, E: Sink>(
     // What a lender reads: where `check` ends with `Done`, the input begins with the lines of a valid site,
     // and the yes that was written is true: no legal layout of that site costs less than its bound, and
     // some legal layout has its cost.
-    ensures bound { (bytes : List ℕ) → AsksFor (texts words.now) AnyCommand.Check → S.left input.old ≡ Some bytes
-        → result ≡ Ending.Done → IsTrueYes bytes (effect O.taken O.faults out.old out.new) }
+    ensures bound { (bytes : List ℕ) → AsksFor (texts words.now) AnyCommand.Check → (S.state input.old).bytes ≡ Some bytes
+        → result ≡ Ending.Done → IsTrueYes bytes (effect (O.state out.old) (O.state out.new)) }
 
     // For every site, every budget and every number of lanes, `plan` prints a document that `check` accepts:
     // its layout is legal at its cost, settled, and costs no more than the straight layout; no legal layout
@@ -73,49 +73,49 @@ pub fn run<S: Source, O: Sink, E: Sink>(
     // site without bends at least the cost of the cheapest in-tree; infeasible is printed only where there is
     // no legal layout; and a gap or a part only where the budget was used up and wasn't enough; unless a
     // stream failed or memory ran out.
-    ensures headline { (n lanes : ℕ) (bytes : List ℕ) (s : Site) → AsksFor (texts words.now) (AnyCommand.Plan n lanes) → S.left input.old ≡ Some bytes
+    ensures headline { (n lanes : ℕ) (bytes : List ℕ) (s : Site) → AsksFor (texts words.now) (AnyCommand.Plan n lanes) → (S.state input.old).bytes ≡ Some bytes
         → IsSiteOf bytes s
-        → RanWell (effect S.left S.faults input.old input.new) (effect O.taken O.faults out.old out.new) (effect E.taken E.faults note.old note.new) result
-        → PrintsPlanOf s n lanes (effect S.left S.faults input.old input.new) (effect O.taken O.faults out.old out.new) result }
+        → RanWell (effect (S.state input.old) (S.state input.new)) (effect (O.state out.old) (O.state out.new)) (effect (E.state note.old) (E.state note.new)) result
+        → PrintsPlanOf s n lanes (effect (S.state input.old) (S.state input.new)) (effect (O.state out.old) (O.state out.new)) result }
 
     // `check` says yes to each document that is accepted, and then its claim is true.
-    ensures yes { (bytes : List ℕ) (s : Site) (claim : Claim) → AsksFor (texts words.now) AnyCommand.Check → S.left input.old ≡ Some bytes
+    ensures yes { (bytes : List ℕ) (s : Site) (claim : Claim) → AsksFor (texts words.now) AnyCommand.Check → (S.state input.old).bytes ≡ Some bytes
         → IsAcceptedDocument bytes s claim
-        → RanWell (effect S.left S.faults input.old input.new) (effect O.taken O.faults out.old out.new) (effect E.taken E.faults note.old note.new) result
-        → (result ≡ Ending.Done) × Wrote (effect O.taken O.faults out.old out.new) (yes_line claim) × Says s claim }
+        → RanWell (effect (S.state input.old) (S.state input.new)) (effect (O.state out.old) (O.state out.new)) (effect (E.state note.old) (E.state note.new)) result
+        → (result ≡ Ending.Done) × Wrote (effect (O.state out.old) (O.state out.new)) (yes_line claim) × Says s claim }
 
     // `site` writes the lines of each site that stands at the front of the input.
-    ensures lines { (bytes : List ℕ) (s : Site) → AsksFor (texts words.now) AnyCommand.Site → S.left input.old ≡ Some bytes
+    ensures lines { (bytes : List ℕ) (s : Site) → AsksFor (texts words.now) AnyCommand.Site → (S.state input.old).bytes ≡ Some bytes
         → IsFrontSite bytes s
-        → RanWell (effect S.left S.faults input.old input.new) (effect O.taken O.faults out.old out.new) (effect E.taken E.faults note.old note.new) result
-        → (result ≡ Ending.Done) × Wrote (effect O.taken O.faults out.old out.new) (site_lines s) }
+        → RanWell (effect (S.state input.old) (S.state input.new)) (effect (O.state out.old) (O.state out.new)) (effect (E.state note.old) (E.state note.new)) result
+        → (result ≡ Ending.Done) × Wrote (effect (O.state out.old) (O.state out.new)) (site_lines s) }
 
     // `judge` answers on each layout.
-    ensures judgement { (bytes : List ℕ) (s : Site) (cables : List Cable) → AsksFor (texts words.now) AnyCommand.Judge → S.left input.old ≡ Some bytes
+    ensures judgement { (bytes : List ℕ) (s : Site) (cables : List Cable) → AsksFor (texts words.now) AnyCommand.Judge → (S.state input.old).bytes ≡ Some bytes
         → IsSiteWithCables bytes s cables
-        → RanWell (effect S.left S.faults input.old input.new) (effect O.taken O.faults out.old out.new) (effect E.taken E.faults note.old note.new) result
-        → (result ≡ Ending.Done) × ((text : List ℕ) × IsJudgement s cables text × Wrote (effect O.taken O.faults out.old out.new) text) }
+        → RanWell (effect (S.state input.old) (S.state input.new)) (effect (O.state out.old) (O.state out.new)) (effect (E.state note.old) (E.state note.new)) result
+        → (result ≡ Ending.Done) × ((text : List ℕ) × IsJudgement s cables text × Wrote (effect (O.state out.old) (O.state out.new)) text) }
 
     // `report` writes the report of each document that is accepted.
-    ensures report { (bytes : List ℕ) (s : Site) (claim : Claim) → AsksFor (texts words.now) AnyCommand.Report → S.left input.old ≡ Some bytes
+    ensures report { (bytes : List ℕ) (s : Site) (claim : Claim) → AsksFor (texts words.now) AnyCommand.Report → (S.state input.old).bytes ≡ Some bytes
         → IsAcceptedDocument bytes s claim
-        → RanWell (effect S.left S.faults input.old input.new) (effect O.taken O.faults out.old out.new) (effect E.taken E.faults note.old note.new) result
-        → (result ≡ Ending.Done) × ((text : List ℕ) × IsReport (effect S.left S.faults input.old input.new) text × Wrote (effect O.taken O.faults out.old out.new) text) }
+        → RanWell (effect (S.state input.old) (S.state input.new)) (effect (O.state out.old) (O.state out.new)) (effect (E.state note.old) (E.state note.new)) result
+        → (result ≡ Ending.Done) × ((text : List ℕ) × IsReport (effect (S.state input.old) (S.state input.new)) text × Wrote (effect (O.state out.old) (O.state out.new)) text) }
 
     // For every number, every number of turbines and every budget, `drill` writes the summary of a plan of the
     // generated site, and reads nothing, unless a stream failed or memory ran out.
     ensures drill { (k turbines n : ℕ) → AsksFor (texts words.now) (AnyCommand.Drill k turbines n)
-        → RanWell (effect S.left S.faults input.old input.new) (effect O.taken O.faults out.old out.new) (effect E.taken E.faults note.old note.new) result
-        → NotUsed (effect S.left S.faults input.old input.new) × WritesSummary k turbines n (effect O.taken O.faults out.old out.new) result }
+        → RanWell (effect (S.state input.old) (S.state input.new)) (effect (O.state out.old) (O.state out.new)) (effect (E.state note.old) (E.state note.new)) result
+        → NotUsed (effect (S.state input.old) (S.state input.new)) × WritesSummary k turbines n (effect (O.state out.old) (O.state out.new)) result }
 
     // How each command ends, case by case.
     ensures ends { (command : AnyCommand) → AsksFor (texts words.now) command → CommandEnds command
-        (effect S.left S.faults input.old input.new) (effect O.taken O.faults out.old out.new) (effect E.taken E.faults note.old note.new) result }
+        (effect (S.state input.old) (S.state input.new)) (effect (O.state out.old) (O.state out.new)) (effect (E.state note.old) (E.state note.new)) result }
 
     // Usage comes exactly where the words are no command, unless the note's push failed.
     ensures usage { result ≡ Ending.Usage → IsNoCommand (texts words.now) }
     ensures no_command { IsNoCommand (texts words.now) → UsageEnds
-        (effect S.left S.faults input.old input.new) (effect O.taken O.faults out.old out.new) (effect E.taken E.faults note.old note.new) result }
+        (effect (S.state input.old) (S.state input.new)) (effect (O.state out.old) (O.state out.new)) (effect (E.state note.old) (E.state note.new)) result }
 {
     match words_of(words) {
         None => refuse_words(note),
@@ -131,7 +131,7 @@ fn obey<S: Source, O: Sink>(
     out: &mut O,
 ) -> Result<Ending, Fault>
     requires { IsObeyed command }
-    ensures { CommandGives command (effect S.left S.faults input.old input.new) (effect O.taken O.faults out.old out.new) result }
+    ensures { CommandGives command (effect (S.state input.old) (S.state input.new)) (effect (O.state out.old) (O.state out.new)) result }
 {
     match command {
         Command::Plan { budget, lanes } => plan(alloc, budget, lanes, input, out),

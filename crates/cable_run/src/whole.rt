@@ -11,7 +11,7 @@ use std::alloc::Global;
 
 /// Reads a whole input as a site.
 pub(crate) fn read_site<S: Source>(alloc: Global, input: &mut S) -> Result<Site, Fault>
-    ensures { ReadsSite (effect S.left S.faults input.old input.new) result }
+    ensures { ReadsSite (effect (S.state input.old) (S.state input.new)) result }
 {
     let site = read_whole(alloc, input)?;
     Ok(site)

@@ -9,7 +9,7 @@ Rose-next : (n : ℕ) → Rose n (next_count n)
 Rose-next n = grind arith
 
 -- a first part of the bytes was taken
-pub Writes-part_taken : {A E : Type 0} (e : E) (old new : SinkState) (bytes : List ℕ) → old.failed ≤ 2 ^ 64 - 1 → TakesPart old new bytes → Writes {A = A} {E = E} (Err e) (Some old.taken) (Some new.taken) old.failed new.failed bytes
+pub Writes-part_taken : {A E : Type 0} (e : E) (old new : SinkState) (bytes : List ℕ) → old.failed ≤ 2 ^ 64 - 1 → TakesPart old new bytes → Writes {A = A} {E = E} (Err e) (record { bytes = Some old.taken; faults = old.failed }) (record { bytes = Some new.taken; faults = new.failed }) bytes
 Writes-part_taken e old new bytes small (inl p) =
     let f : new.failed ≡ next_count old.failed = ap (λ s. s.failed) p.1 in
     let t : new.taken ≡ old.taken = ap (λ s. s.taken) p.1 in

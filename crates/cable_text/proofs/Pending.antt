@@ -6,14 +6,14 @@ use Rattle.std.proofs.lemmas.List.Elements.{All-more, All-append}
 use Rattle.std.proofs.lemmas.Bool.Decides.{nat_tests}
 use Rattle.cable_definitions.specs.Text.{HasNoNewline, LongLine}
 use Rattle.cable_text.specs.Stream.{GivesFront}
-use Rattle.cable_text.specs.Lines.{BufferState, CutsLine, ahead, StandsNext}
+use Rattle.cable_text.specs.Lines.{BufferState, CutsLine, to_come, StandsNext}
 use borrow.Rule.Slice.PartMut.{put_mid}
 
 -- bytes that were given are pending
-pub ahead-gives : (l m : Option (List ℕ)) (front more : List ℕ) → GivesFront l m more → ahead (front ++ more) m ≡ ahead front l
-ahead-gives None m front more e = ap (ahead (front ++ more)) e
+pub ahead-gives : (l m : Option (List ℕ)) (front more : List ℕ) → GivesFront l m more → to_come (front ++ more) m ≡ to_come front l
+ahead-gives None m front more e = ap (to_come (front ++ more)) e
 ahead-gives (Some bytes) m front more (rest, e, f) =
-    ap (ahead (front ++ more)) f ∙ ap Some (append_assoc front more rest ∙ ap (λ xs. front ++ xs) (sym e))
+    ap (to_come (front ++ more)) f ∙ ap Some (append_assoc front more rest ∙ ap (λ xs. front ++ xs) (sym e))
 
 -- the first bytes of a piece behind others
 take_behind : (used_bytes piece past : List ℕ) (used n : ℕ) → length used_bytes ≡ used → n ≤ length piece → take (used + n) (used_bytes ++ (piece ++ past)) ≡ used_bytes ++ take n piece
@@ -23,9 +23,9 @@ take_behind used_bytes piece past used n size h =
     ap (take (used + n)) split ∙ take_at (used_bytes ++ take n piece) (drop n piece ++ past) (used + n) (omega (arith, size, length-append used_bytes (take n piece), length-take-le n piece h))
 
 -- bytes that were pulled behind those that are used are pending
-pub ahead-pulled : (storage piece : List ℕ) (used k n : ℕ) (l m : Option (List ℕ)) → used ≤ length storage → n ≤ length piece → GivesFront l m (take n piece) → ahead (take (used + n) (put_mid used k storage piece)) m ≡ ahead (take used storage) l
+pub ahead-pulled : (storage piece : List ℕ) (used k n : ℕ) (l m : Option (List ℕ)) → used ≤ length storage → n ≤ length piece → GivesFront l m (take n piece) → to_come (take (used + n) (put_mid used k storage piece)) m ≡ to_come (take used storage) l
 ahead-pulled storage piece used k n l m h small given =
-    ap (λ xs. ahead xs m) (take_behind (take used storage) piece _ used n (length-take-le used storage h) small) ∙ ahead-gives l m (take used storage) (take n piece) given
+    ap (λ xs. to_come xs m) (take_behind (take used storage) piece _ used n (length-take-le used storage h) small) ∙ ahead-gives l m (take used storage) (take n piece) given
 
 -- the bytes behind a line and its newline
 pub pending_cut : (items : List ℕ) (start end len : ℕ) → len < end - start → take (end - (start + (len + 1))) (drop (start + (len + 1)) items) ≡ drop (len + 1) (take (end - start) (drop start items))
@@ -44,12 +44,12 @@ pub HasNoNewline-all : (bytes : List ℕ) (i : ℕ) → length bytes ≤ i → H
 HasNoNewline-all bytes i past h = let e : take i bytes ≡ bytes = take_all i bytes past in subst HasNoNewline e h
 
 -- the same of what a pull answers
-pub ahead-pull : {E : Type 0} (r : Result ℕ E) (storage piece : List ℕ) (used k size : ℕ) (l m : Option (List ℕ)) → used ≤ length storage → size ≡ length piece → IfOk r (λ n. n ≤ size) → IfOk r (λ n. GivesFront l m (take n piece)) → IfOk r (λ n. ahead (take (used + n) (put_mid used k storage piece)) m ≡ ahead (take used storage) l)
+pub ahead-pull : {E : Type 0} (r : Result ℕ E) (storage piece : List ℕ) (used k size : ℕ) (l m : Option (List ℕ)) → used ≤ length storage → size ≡ length piece → IfOk r (λ n. n ≤ size) → IfOk r (λ n. GivesFront l m (take n piece)) → IfOk r (λ n. to_come (take (used + n) (put_mid used k storage piece)) m ≡ to_come (take used storage) l)
 ahead-pull (Ok n) storage piece used k size l m h e small given = ahead-pulled storage piece used k n l m h (omega (arith, small)) given
 ahead-pull (Err f) storage piece used k size l m h e small given = tt
 
 -- as many bytes as fit are pending, without a newline
-pub Finds-long : (pending : List ℕ) (l old : Option (List ℕ)) → ahead pending l ≡ old → length pending ≡ 4097 → HasNoNewline pending → StandsNext old LongLine (ahead pending l)
+pub Finds-long : (pending : List ℕ) (l old : Option (List ℕ)) → to_come pending l ≡ old → length pending ≡ 4097 → HasNoNewline pending → StandsNext old LongLine (to_come pending l)
 Finds-long pending None old e size plain = let P : Option (List ℕ) → Type 0 = λ o. StandsNext o LongLine None in subst P e refl
 Finds-long pending (Some left) old e size plain =
     let P : Option (List ℕ) → Type 0 = λ o. StandsNext o LongLine (Some (pending ++ left)) in

@@ -1,7 +1,6 @@
 -- Words between single spaces: what a line's text is cut into, and that a text has one list of words.
-use Rattle.std.proofs.Common.{◌≡◌, ◌≢◌, ℕ, ◌+◌, ◌≤◌, ◌<◌, List, [], ◌∷◌, ◌++◌, length, true, false, not, ◌==◌, refl, sym, ap, ◌∙◌, arith, All, take, drop, get_or, take-append-drop, Option, Some, None, Bor, cond}
+use Rattle.std.proofs.Common.{◌≡◌, ◌≢◌, ℕ, ◌+◌, ◌≤◌, ◌<◌, List, [], ◌∷◌, ◌++◌, length, true, false, not, ◌==◌, refl, sym, ap, ◌∙◌, arith, All, take, drop, get_or, take-append-drop, cond}
 use Rattle.std.specs.List.{onto_first, join_with_byte, AllPass}
-use Rattle.std.specs.Option.{is_some, option_copied}
 use Rattle.std.proofs.lemmas.List.Splits.{slice_split_none, slice_split_at, join_with_byte-slice_split}
 use Rattle.std.proofs.lemmas.List.Elements.{All-weaker, All-head, All-tail, All-from_get_or, All-same, All-nil, All-cons}
 use Rattle.std.proofs.lemmas.List.{length-take-le, get_or-take, drop_more, take_all}

@@ -1,7 +1,7 @@
 -- Writes one after another.
 use Rattle.std.proofs.Common.{◌≡◌, ℕ, ◌-◌, ◌^◌, ◌≤◌, inl, inr, List, [], ◌++◌, Option, Some, None, Result, Ok, Err, IsOk, refl, sym, ap, subst, append_assoc, arith}
 use Rattle.std.proofs.lemmas.List.{append-nil}
-use Rattle.cable_text.specs.Stream.{Rose, Appends, AppendsPrefix, Writes}
+use Rattle.cable_text.specs.Stream.{StreamState, Rose, FaultsRose, Appends, AppendsPrefix, Writes}
 
 -- a text and then another
 pub Appends-then : (a b c : Option (List ℕ)) (first second : List ℕ) → Appends a b first → Appends b c second → Appends a c (first ++ second)
@@ -37,41 +37,41 @@ Rose-before i j k h top (inl p) = inl (omega arith)
 Rose-before i j k h top (inr p) = inr (omega arith)
 
 -- a whole text and then another
-pub Writes-then : {A B E F : Type 0} {u : A} {r : Result B F} {a b c : Option (List ℕ)} {i j k : ℕ} {first second : List ℕ} → Writes {A = A} {E = E} (Ok u) a b i j first → Writes r b c j k second → Writes r a c i k (first ++ second)
-Writes-then {r = Ok v} {a} {b} {c} {i} {j} {k} {first} {second} p q = record {
-  ok = Appends-then a b c first second p.ok q.ok;
+pub Writes-then : {A B E F : Type 0} {u : A} {r : Result B F} {a b c : StreamState} {first second : List ℕ} → Writes {A = A} {E = E} (Ok u) a b first → Writes r b c second → Writes r a c (first ++ second)
+Writes-then {r = Ok v} {a} {b} {c} {first} {second} p q = record {
+  ok = Appends-then a.bytes b.bytes c.bytes first second p.ok q.ok;
   failed = tt;
   part = tt;
   count = omega arith;
 }
-Writes-then {r = Err e} {a} {b} {c} {i} {j} {k} {first} {second} p q = record {
+Writes-then {r = Err e} {a} {b} {c} {first} {second} p q = record {
   ok = tt;
-  failed = Rose-after i j k p.count q.failed;
-  part = AppendsPrefix-then a b c first second p.ok q.part;
+  failed = Rose-after a.faults b.faults c.faults p.count q.failed;
+  part = AppendsPrefix-then a.bytes b.bytes c.bytes first second p.ok q.part;
   count = omega arith;
 }
 
 -- a text that failed stops what follows it
-pub Writes-stop : {A B E F : Type 0} {e : E} (f : F) {a b : Option (List ℕ)} {i j : ℕ} {first : List ℕ} (second : List ℕ) → Writes {A = A} {E = E} (Err e) a b i j first → Writes {A = B} {E = F} (Err f) a b i j (first ++ second)
-Writes-stop f {a} {b} {i} {j} {first} second p = record {
+pub Writes-stop : {A B E F : Type 0} {e : E} (f : F) {a b : StreamState} {first : List ℕ} (second : List ℕ) → Writes {A = A} {E = E} (Err e) a b first → Writes {A = B} {E = F} (Err f) a b (first ++ second)
+Writes-stop f {a} {b} {first} second p = record {
   ok = tt;
   failed = p.failed;
-  part = AppendsPrefix-front a b first second p.part;
+  part = AppendsPrefix-front a.bytes b.bytes first second p.part;
   count = p.count;
 }
 
 -- nothing was to be written
-pub Writes-nothing : {A E : Type 0} (u : A) (a : Option (List ℕ)) (i : ℕ) → Writes {A = A} {E = E} (Ok u) a a i i []
-Writes-nothing u a i = record { ok = Appends-nothing a; failed = tt; part = tt; count = omega arith }
+pub Writes-nothing : {A E : Type 0} (u : A) (a : StreamState) → Writes {A = A} {E = E} (Ok u) a a []
+Writes-nothing u a = record { ok = Appends-nothing a.bytes; failed = tt; part = tt; count = omega arith }
 
 -- the same with another error or value
-pub Writes-ok : {A B E F : Type 0} {u : A} (v : B) {a b : Option (List ℕ)} {i j : ℕ} {text : List ℕ} → Writes {A = A} {E = E} (Ok u) a b i j text → Writes {A = B} {E = F} (Ok v) a b i j text
+pub Writes-ok : {A B E F : Type 0} {u : A} (v : B) {a b : StreamState} {text : List ℕ} → Writes {A = A} {E = E} (Ok u) a b text → Writes {A = B} {E = F} (Ok v) a b text
 Writes-ok v p = record { ok = p.ok; failed = tt; part = tt; count = p.count }
 
-pub Writes-err : {A B E F : Type 0} {e : E} (f : F) {a b : Option (List ℕ)} {i j : ℕ} {text : List ℕ} → Writes {A = A} {E = E} (Err e) a b i j text → Writes {A = B} {E = F} (Err f) a b i j text
+pub Writes-err : {A B E F : Type 0} {e : E} (f : F) {a b : StreamState} {text : List ℕ} → Writes {A = A} {E = E} (Err e) a b text → Writes {A = B} {E = F} (Err f) a b text
 Writes-err f p = record { ok = tt; failed = p.failed; part = p.part; count = p.count }
 
 -- where the count didn't rise, all was written
-pub Writes-whole : {A E : Type 0} {r : Result A E} {a b : Option (List ℕ)} {i j : ℕ} {text : List ℕ} → Writes r a b i j text → (Rose i j → ⊥) → IsOk r × Appends a b text
+pub Writes-whole : {A E : Type 0} {r : Result A E} {a b : StreamState} {text : List ℕ} → Writes r a b text → (FaultsRose a b → ⊥) → IsOk r × Appends a.bytes b.bytes text
 Writes-whole {r = Ok u} p calm = (refl, p.ok)
 Writes-whole {r = Err e} p calm = absurd (calm p.failed)

@@ -4,3 +4,4 @@ pub mod Number
 pub mod Memory
 pub mod Lines
 pub mod Words
+pub mod Fields

@@ -1,7 +1,7 @@
 -- Lines of the bytes of a source.
 use Rattle.std.specs.Prelude.{◌≡◌, ℕ, ◌+◌, ◌-◌, ◌^◌, ◌<◌, ◌≤◌, min, List, ◌∷◌, ◌++◌, length, slice_get, Option, Some, None, Result, Ok, Err}
 use Rattle.cable_definitions.specs.Text.{Piece, Whole, LongLine, CutLine, NoLine, IsNext, HasNoNewline}
-use Rattle.cable_text.specs.Stream.{Rose, IsAtEnd}
+use Rattle.cable_text.specs.Stream.{StreamState, FaultsRose, IsAtEnd}
 use Rattle.cable_text.specs.declared.fault.Line.{Line}
 use Rattle.cable_text.specs.declared.fault.Line.TheVariants.{Text, End}
 use Rattle.cable_text.specs.declared.fault.LineFault.{LineFault}
@@ -27,22 +27,27 @@ pub record CutsLine (pending : List ℕ) (new : BufferState) : Type 0 where
   pub short : length new.text ≤ 4096
 
 -- all bytes that are to come: those pending, and those left in a source that tells them
-abbrev pub ahead : List ℕ → Option (List ℕ) → Option (List ℕ)
-ahead pending None = None
-ahead pending (Some left) = Some (pending ++ left)
+abbrev pub to_come : List ℕ → Option (List ℕ) → Option (List ℕ)
+to_come pending None = None
+to_come pending (Some left) = Some (pending ++ left)
+
+-- all bytes that are to come to a reader of lines from its source
+abbrev pub ahead : LinesState → StreamState → Option (List ℕ)
+ahead lines source = to_come lines.pending source.bytes
 
 -- this piece stands next in the bytes to come, and these are left after it
 abbrev pub StandsNext : Option (List ℕ) → Piece → Option (List ℕ) → Type 0
 StandsNext None piece after = after ≡ None
 StandsNext (Some bytes) piece after = (rest : List ℕ) × IsNext bytes piece rest × (after ≡ Some rest)
 
--- what a search for the next line does to the bytes to come: a source that tells nothing gives short lines without a newline all the same
-abbrev pub ReadsPiece : Option (List ℕ) → Option (List ℕ) → List ℕ → ℕ → ℕ → Result Line LineFault → Type 0
-ReadsPiece old new text i j (Ok Text) = StandsNext old (Whole text) new × HasNoNewline text × (length text ≤ 4096)
-ReadsPiece old new text i j (Ok End) = StandsNext old NoLine new
-ReadsPiece old new text i j (Err TooLong) = StandsNext old LongLine new
-ReadsPiece old new text i j (Err NoNewline) = StandsNext old CutLine new
-ReadsPiece old new text i j (Err Read) = Rose i j
+-- what a search for the next line does to the bytes to come: a source that tells nothing gives short lines without a newline all
+-- the same; and `failed` is so where the source failed
+abbrev pub ReadsPiece : Option (List ℕ) → Option (List ℕ) → List ℕ → Type 0 → Result Line LineFault → Type 0
+ReadsPiece old new text failed (Ok Text) = StandsNext old (Whole text) new × HasNoNewline text × (length text ≤ 4096)
+ReadsPiece old new text failed (Ok End) = StandsNext old NoLine new
+ReadsPiece old new text failed (Err TooLong) = StandsNext old LongLine new
+ReadsPiece old new text failed (Err NoNewline) = StandsNext old CutLine new
+ReadsPiece old new text failed (Err Read) = failed
 
 -- the number of the line after so many, which stands still at its last value
 abbrev pub next_number : ℕ → ℕ
@@ -60,20 +65,20 @@ fault_of (Ok a) = None
 fault_of (Err fault) = Some fault
 
 -- what a call for the next line does, where no fault was kept
-pub record ReadsLine (old new : LinesState) (left_old left_new : Option (List ℕ)) (faults_old faults_new : ℕ) (result : Result Line LineFault) : Type 0 where
-  pub piece : ReadsPiece (ahead old.pending left_old) (ahead new.pending left_new) new.text faults_old faults_new result
+pub record ReadsLine (old new : LinesState) (source_old source_new : StreamState) (result : Result Line LineFault) : Type 0 where
+  pub piece : ReadsPiece (ahead old source_old) (ahead new source_new) new.text (FaultsRose source_old source_new) result
   pub number : new.number ≡ next_number old.lines
   pub lines : new.lines ≡ lines_after old.lines result
   pub kept : new.kept ≡ fault_of result
 
 -- a look at the next byte finds it and leaves it, or finds the end, or a count rose
-abbrev pub PeeksByte : LinesState → LinesState → Option (List ℕ) → Option (List ℕ) → ℕ → ℕ → Result (Option ℕ) LineFault → Type 0
-PeeksByte old new left_old left_new i j (Ok (Some b)) =
-    (slice_get new.pending 0 ≡ Some b) × (ahead new.pending left_new ≡ ahead old.pending left_old) × (new.number ≡ old.number) × (new.lines ≡ old.lines) × (new.kept ≡ None)
-PeeksByte old new left_old left_new i j (Ok None) =
-    IsAtEnd (ahead old.pending left_old) × (ahead new.pending left_new ≡ ahead old.pending left_old) × (new.number ≡ old.number) × (new.lines ≡ old.lines) × (new.kept ≡ None)
-PeeksByte old new left_old left_new i j (Err fault) =
-    (fault ≡ Read) × Rose i j × (new.number ≡ next_number old.lines) × (new.lines ≡ old.lines) × (new.kept ≡ Some Read)
+abbrev pub PeeksByte : LinesState → LinesState → StreamState → StreamState → Result (Option ℕ) LineFault → Type 0
+PeeksByte old new source_old source_new (Ok (Some b)) =
+    (slice_get new.pending 0 ≡ Some b) × (ahead new source_new ≡ ahead old source_old) × (new.number ≡ old.number) × (new.lines ≡ old.lines) × (new.kept ≡ None)
+PeeksByte old new source_old source_new (Ok None) =
+    IsAtEnd (ahead old source_old) × (ahead new source_new ≡ ahead old source_old) × (new.number ≡ old.number) × (new.lines ≡ old.lines) × (new.kept ≡ None)
+PeeksByte old new source_old source_new (Err fault) =
+    (fault ≡ Read) × FaultsRose source_old source_new × (new.number ≡ next_number old.lines) × (new.lines ≡ old.lines) × (new.kept ≡ Some Read)
 
 -- these are all bytes to come, where they are told
 abbrev pub IsRest : Option (List ℕ) → List ℕ → Type 0

@@ -1,8 +1,8 @@
 ghost use Rattle.std.specs.Prelude.{◌≡◌, ◌≢◌, ℕ, ◌+◌, ◌-◌, ◌<◌, ◌≤◌, [], length, take, drop, slice_index, slice_get, IfOk, IfSome, IfNone, OnErr, OnOk, IsTrue, ◌++◌, List};
 ghost use Rattle.cable_definitions.specs.Text.{HasNoNewline};
-ghost use Rattle.cable_text.specs.Stream.{Rose, IsAtEnd};
+ghost use Rattle.cable_text.specs.Stream.{FaultsRose, FaultsOnlyRise, IsAtEnd};
 ghost use Rattle.std.specs.Bool.{OnTrue, OnFalse};
-ghost use Rattle.cable_text.specs.Lines.{ahead, CutsLine, ReadsPiece};
+ghost use Rattle.cable_text.specs.Lines.{to_come, CutsLine, ReadsPiece};
 
 use crate::fault::{Line, LineFault};
 use crate::stream::{Failed, Source};
@@ -94,10 +94,10 @@ impl Buffer {
         requires { length self.old.pending < 4097 }
         ensures grows { IfOk result (λ n. length self.new.pending ≡ length self.old.pending + n) }
         ensures front { take (length self.old.pending) self.new.pending ≡ self.old.pending }
-        ensures bytes { OnOk result (ahead self.new.pending (S.left src.new) ≡ ahead self.old.pending (S.left src.old)) }
-        ensures end { IfOk result (λ n. n ≡ 0 → IsAtEnd (S.left src.old)) }
-        ensures failed { OnErr result (Rose (S.faults src.old) (S.faults src.new)) }
-        ensures count { S.faults src.old ≤ S.faults src.new }
+        ensures bytes { OnOk result (to_come self.new.pending (S.state src.new).bytes ≡ to_come self.old.pending (S.state src.old).bytes) }
+        ensures end { IfOk result (λ n. n ≡ 0 → IsAtEnd (S.state src.old).bytes) }
+        ensures failed { OnErr result (FaultsRose (S.state src.old) (S.state src.new)) }
+        ensures count { FaultsOnlyRise (S.state src.old) (S.state src.new) }
     {
         self.bytes.rotate_left(self.start);
         self.end -= self.start;
@@ -123,10 +123,10 @@ impl Buffer {
     /// `Failed` only where the source's count of faults rose.
     pub fn peek<S: Source>(&mut self, src: &mut S) -> Result<Option<u8>, Failed>
         ensures some { IfOk result (λ o. IfSome o (λ b. slice_get self.new.pending 0 ≡ Some b)) }
-        ensures none { IfOk result (λ o. IfNone o (IsAtEnd (ahead self.old.pending (S.left src.old)))) }
-        ensures bytes { OnOk result (ahead self.new.pending (S.left src.new) ≡ ahead self.old.pending (S.left src.old)) }
-        ensures failed { OnErr result (Rose (S.faults src.old) (S.faults src.new)) }
-        ensures count { S.faults src.old ≤ S.faults src.new }
+        ensures none { IfOk result (λ o. IfNone o (IsAtEnd (to_come self.old.pending (S.state src.old).bytes))) }
+        ensures bytes { OnOk result (to_come self.new.pending (S.state src.new).bytes ≡ to_come self.old.pending (S.state src.old).bytes) }
+        ensures failed { OnErr result (FaultsRose (S.state src.old) (S.state src.new)) }
+        ensures count { FaultsOnlyRise (S.state src.old) (S.state src.new) }
     {
         if !self.pending().is_empty() {
             return Ok(self.first());
@@ -160,9 +160,9 @@ impl Buffer {
     /// `TooLong` exactly where 4,097 bytes hold no newline, `NoNewline` exactly where the input ends inside a line, `Read` only where the source's count of
     /// faults rose.
     pub fn read_line<S: Source>(&mut self, src: &mut S) -> Result<Line, LineFault>
-        ensures piece { ReadsPiece (ahead self.old.pending (S.left src.old)) (ahead self.new.pending (S.left src.new))
-            self.new.text (S.faults src.old) (S.faults src.new) result }
-        ensures count { S.faults src.old ≤ S.faults src.new }
+        ensures piece { ReadsPiece (to_come self.old.pending (S.state src.old).bytes) (to_come self.new.pending (S.state src.new).bytes)
+            self.new.text (FaultsRose (S.state src.old) (S.state src.new)) result }
+        ensures count { FaultsOnlyRise (S.state src.old) (S.state src.new) }
     {
         if self.cut_line(0) {
             return Ok(Line::Text);
@@ -198,11 +198,11 @@ fn pull_behind<S: Source>(src: &mut S, storage: &mut [u8], used: usize) -> Resul
     requires { used < length storage.old }
     ensures within { IfOk result (λ n. used + n ≤ length storage.old) }
     ensures front { take used storage.new ≡ take used storage.old }
-    ensures bytes { IfOk result (λ n. ahead (take (used + n) storage.new) (S.left src.new)
-        ≡ ahead (take used storage.old) (S.left src.old)) }
-    ensures end { IfOk result (λ n. n ≡ 0 → IsAtEnd (S.left src.old)) }
-    ensures failed { OnErr result (Rose (S.faults src.old) (S.faults src.new)) }
-    ensures count { S.faults src.old ≤ S.faults src.new }
+    ensures bytes { IfOk result (λ n. to_come (take (used + n) storage.new) (S.state src.new).bytes
+        ≡ to_come (take used storage.old) (S.state src.old).bytes) }
+    ensures end { IfOk result (λ n. n ≡ 0 → IsAtEnd (S.state src.old).bytes) }
+    ensures failed { OnErr result (FaultsRose (S.state src.old) (S.state src.new)) }
+    ensures count { FaultsOnlyRise (S.state src.old) (S.state src.new) }
 {
     src.pull(&mut storage[used..])
 }

@@ -3,6 +3,7 @@
 
 mod buffer;
 mod fault;
+mod line;
 mod line_buffer;
 mod lines;
 mod memory;
@@ -12,6 +13,7 @@ mod stream;
 mod words;
 
 pub use fault::{Line, LineFault, RestFault};
+pub use line::{Field, count_of, push_line};
 pub use line_buffer::LineBuffer;
 pub use lines::Lines;
 pub use memory::{MemorySink, MemorySource};

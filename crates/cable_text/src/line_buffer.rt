@@ -60,10 +60,8 @@ impl LineBuffer {
 }
 
 impl Sink for LineBuffer {
-    ghost taken = { λ line. Some line };
-
-    // No count is kept: it stands at its last value.
-    ghost faults = { λ line. 2 ^ 64 - 1 };
+    // No faults are counted: their count stands at its last value.
+    ghost state = { λ line. record { bytes = Some line; faults = 2 ^ 64 - 1 } };
 
     /// Appends all of `bytes`.
     ///
@@ -71,7 +69,8 @@ impl Sink for LineBuffer {
     ///
     /// `Failed` exactly where they don't fit, and then nothing is appended.
     fn push(&mut self, bytes: &[u8]) -> Result<(), Failed>
-        ensures writes { Writes result (Some self.old) (Some self.new) (2 ^ 64 - 1) (2 ^ 64 - 1) bytes.now }
+        ensures writes { Writes result (record { bytes = Some self.old; faults = 2 ^ 64 - 1 })
+            (record { bytes = Some self.new; faults = 2 ^ 64 - 1 }) bytes.now }
         ensures fits { length self.old + length bytes.now ≤ 4096 → IsOk result }
         ensures err { OnErr result (self.new ≡ self.old) }
     {

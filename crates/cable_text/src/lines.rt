@@ -1,5 +1,5 @@
 ghost use Rattle.std.specs.Prelude.{◌≡◌, ℕ, ◌≤◌, [], length, Some, None, IfOk, IfSome, IfNone, IfErr, OnOk, ◌<◌};
-ghost use Rattle.cable_text.specs.Stream.{Rose, IsAtEnd};
+ghost use Rattle.cable_text.specs.Stream.{FaultsRose, FaultsOnlyRise, IsAtEnd};
 ghost use Rattle.cable_text.specs.Lines.{ahead, ReadsLine, PeeksByte, IsRest, IsLonger};
 
 use crate::buffer::Buffer;
@@ -68,9 +68,8 @@ impl Lines {
     /// kept.
     pub fn peek<S: Source>(&mut self, src: &mut S) -> Result<Option<u8>, LineFault>
         ensures kept { IfSome self.old.kept (λ fault. (result ≡ Err fault) × (self.new ≡ self.old) × (src.new ≡ src.old)) }
-        ensures peeks { IfNone self.old.kept (PeeksByte self.old self.new (S.left src.old) (S.left src.new)
-            (S.faults src.old) (S.faults src.new) result) }
-        ensures count { S.faults src.old ≤ S.faults src.new }
+        ensures peeks { IfNone self.old.kept (PeeksByte self.old self.new (S.state src.old) (S.state src.new) result) }
+        ensures count { FaultsOnlyRise (S.state src.old) (S.state src.new) }
     {
         if let Some(fault) = self.kept {
             return Err(fault);
@@ -95,9 +94,8 @@ impl Lines {
     /// failed. The fault is kept.
     pub fn next<S: Source>(&mut self, src: &mut S) -> Result<Line, LineFault>
         ensures kept { IfSome self.old.kept (λ fault. (result ≡ Err fault) × (self.new ≡ self.old) × (src.new ≡ src.old)) }
-        ensures reads { IfNone self.old.kept (ReadsLine self.old self.new (S.left src.old) (S.left src.new)
-            (S.faults src.old) (S.faults src.new) result) }
-        ensures count { S.faults src.old ≤ S.faults src.new }
+        ensures reads { IfNone self.old.kept (ReadsLine self.old self.new (S.state src.old) (S.state src.new) result) }
+        ensures count { FaultsOnlyRise (S.state src.old) (S.state src.new) }
     {
         if let Some(fault) = self.kept {
             return Err(fault);
@@ -130,12 +128,12 @@ impl Lines {
         most: usize,
     ) -> Result<Vec<u8>, RestFault>
         requires { self.kept ≡ None }
-        ensures bytes { IfOk result (λ v. IsRest (ahead self.pending (S.left src.old)) v.items) }
+        ensures bytes { IfOk result (λ v. IsRest (ahead self (S.state src.old)) v.items) }
         ensures within { IfOk result (λ v. length v.items ≤ most) }
-        ensures end { OnOk result (IsAtEnd (S.left src.new)) }
-        ensures long { IfErr result (λ e. e ≡ RestFault.TooLong → IsLonger (ahead self.pending (S.left src.old)) most) }
-        ensures failed { IfErr result (λ e. e ≡ RestFault.Read → Rose (S.faults src.old) (S.faults src.new)) }
-        ensures count { S.faults src.old ≤ S.faults src.new }
+        ensures end { OnOk result (IsAtEnd (S.state src.new).bytes) }
+        ensures long { IfErr result (λ e. e ≡ RestFault.TooLong → IsLonger (ahead self (S.state src.old)) most) }
+        ensures failed { IfErr result (λ e. e ≡ RestFault.Read → FaultsRose (S.state src.old) (S.state src.new)) }
+        ensures count { FaultsOnlyRise (S.state src.old) (S.state src.new) }
     {
         let mut buffer = self.buffer;
         let mut bytes = Vec::new(alloc);

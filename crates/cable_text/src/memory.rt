@@ -56,9 +56,7 @@ impl MemorySource {
 }
 
 impl Source for MemorySource {
-    ghost left = { λ s. Some s.left };
-
-    ghost faults = { λ s. s.failed };
+    ghost state = { λ s. record { bytes = Some s.left; faults = s.failed } };
 
     /// GivesFront as many bytes as `piece`, `buf` and what is left allow.
     ///
@@ -172,9 +170,7 @@ impl MemorySink {
 }
 
 impl Sink for MemorySink {
-    ghost taken = { λ s. Some s.taken };
-
-    ghost faults = { λ s. s.failed };
+    ghost state = { λ s. record { bytes = Some s.taken; faults = s.failed } };
 
     /// Appends all of `bytes`, or as many as fit.
     ///
@@ -183,8 +179,8 @@ impl Sink for MemorySink {
     /// `Failed` exactly where the number of this call is listed, and then nothing is appended, or
     /// `bytes` don't fit in the room. The count of faults rises by one, up to 2^64 - 1.
     fn push(&mut self, bytes: &[u8]) -> Result<(), Failed>
-        ensures writes { Writes result (Some self.old.taken) (Some self.new.taken) self.old.failed
-            self.new.failed bytes.now }
+        ensures writes { Writes result (record { bytes = Some self.old.taken; faults = self.old.failed })
+            (record { bytes = Some self.new.taken; faults = self.new.failed }) bytes.now }
         ensures takes { OnOk result (TakesAll self.old self.new bytes.now) }
         ensures fails { OnErr result (TakesPart self.old self.new bytes.now) }
     {

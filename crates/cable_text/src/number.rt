@@ -140,8 +140,7 @@ fn digits_value(digits: &[u8]) -> Option<u128>
 /// `Failed` only where the count of `out` rose or stands at its last value. Some first part of the
 /// spelling was appended then.
 pub fn push_number<O: Sink>(value: i128, out: &mut O) -> Result<(), Failed>
-    ensures writes { Writes result (O.taken out.old) (O.taken out.new) (O.faults out.old)
-        (O.faults out.new) (number value) }
+    ensures writes { Writes result (O.state out.old) (O.state out.new) (number value) }
 {
     let mut text = [0u8; 40];
     let start = put_digits(value.unsigned_abs(), &mut text);

@@ -22,9 +22,7 @@ impl<R> StdSource<R> {
 }
 
 impl<R: Read> Source for StdSource<R> {
-    ghost left = { λ _. None };
-
-    ghost faults = { λ s. s.failed };
+    ghost state = { λ s. record { bytes = None; faults = s.failed } };
 
     fn pull(&mut self, buf: &mut [u8]) -> Result<usize, Failed> {
         match self.reader.read(buf) {
@@ -55,9 +53,7 @@ impl<W> StdSink<W> {
 }
 
 impl<W: Write> Sink for StdSink<W> {
-    ghost taken = { λ _. None };
-
-    ghost faults = { λ s. s.failed };
+    ghost state = { λ s. record { bytes = None; faults = s.failed } };
 
     fn push(&mut self, bytes: &[u8]) -> Result<(), Failed> {
         let mut rest = bytes;

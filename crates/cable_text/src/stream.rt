@@ -1,5 +1,5 @@
-ghost use Rattle.std.specs.Prelude.{◌≡◌, ℕ, ◌<◌, ◌≤◌, List, length, take, Option, IfOk, OnErr};
-ghost use Rattle.cable_text.specs.Stream.{Rose, GivesFront, IsAtEnd, StaysSilent, Writes};
+ghost use Rattle.std.specs.Prelude.{◌≡◌, ℕ, ◌<◌, ◌≤◌, length, take, IfOk, OnErr};
+ghost use Rattle.cable_text.specs.Stream.{StreamState, FaultsRose, FaultsOnlyRise, GivesFront, IsAtEnd, StaysSilent, Writes};
 
 use thiserror::Error;
 
@@ -10,11 +10,9 @@ pub struct Failed;
 
 /// A source of bytes.
 pub trait Source {
-    // The bytes that are left, where the source tells them.
-    ghost left: { Self → Option (List ℕ) };
-
-    // How many pulls failed, up to the last value of 64 bits.
-    ghost faults: { Self → ℕ };
+    // The bytes that are left, where the source tells them, and how many pulls failed, up to the last
+    // value of 64 bits.
+    ghost state: { Self → StreamState };
 
     /// Puts the next bytes at the front of `buf` and answers how many. It is 0 at the end of the
     /// input alone.
@@ -25,20 +23,18 @@ pub trait Source {
     fn pull(&mut self, buf: &mut [u8]) -> Result<usize, Failed>
         requires { 0 < length buf.old }
         ensures bound { IfOk result (λ n. n ≤ length buf.old) }
-        ensures bytes { IfOk result (λ n. GivesFront (left self.old) (left self.new) (take n buf.new)) }
-        ensures end { IfOk result (λ n. n ≡ 0 → IsAtEnd (left self.old)) }
-        ensures silent { StaysSilent (left self.old) (left self.new) }
-        ensures failed { OnErr result (Rose (faults self.old) (faults self.new)) }
-        ensures count { faults self.old ≤ faults self.new };
+        ensures bytes { IfOk result (λ n. GivesFront (state self.old).bytes (state self.new).bytes (take n buf.new)) }
+        ensures end { IfOk result (λ n. n ≡ 0 → IsAtEnd (state self.old).bytes) }
+        ensures silent { StaysSilent (state self.old).bytes (state self.new).bytes }
+        ensures failed { OnErr result (FaultsRose (state self.old) (state self.new)) }
+        ensures count { FaultsOnlyRise (state self.old) (state self.new) };
 }
 
 /// A sink of bytes.
 pub trait Sink {
-    // The bytes taken so far, where the sink tells them.
-    ghost taken: { Self → Option (List ℕ) };
-
-    // How many pushes failed, up to the last value of 64 bits.
-    ghost faults: { Self → ℕ };
+    // The bytes taken so far, where the sink tells them, and how many pushes failed, up to the last
+    // value of 64 bits.
+    ghost state: { Self → StreamState };
 
     /// Appends all of `bytes`.
     ///
@@ -47,6 +43,5 @@ pub trait Sink {
     /// `Failed` only where the count of faults rose or stands at its last value. Some first part of
     /// `bytes` was appended then.
     fn push(&mut self, bytes: &[u8]) -> Result<(), Failed>
-        ensures writes { Writes result (taken self.old) (taken self.new) (faults self.old)
-            (faults self.new) bytes.now };
+        ensures writes { Writes result (state self.old) (state self.new) bytes.now };
 }

@@ -19,14 +19,14 @@ use Rattle.cable_definitions.specs.Refusal.{BudgetLine, LayoutLine, EndLine, Raw
 use Rattle.cable_definitions.specs.declared.claim.Refusal.{Refusal}
 use Rattle.bound_value.specs.declared.work.Work.{Work}
 use Rattle.cable_text.specs.Stream.{GivesFront, IsAtEnd}
-use Rattle.cable_text.specs.Lines.{ahead}
+use Rattle.cable_text.specs.Lines.{to_come}
 use Rattle.cable_text.specs.declared.fault.LineFault.{LineFault}
 use Rattle.document_laws.proofs.ArcsOnce.{arcs-same}
 use Rattle.proof_text.specs.declared.fault.ItemFault.{ItemFault}
 use Rattle.proof_text.specs.declared.fault.ItemFault.TheVariants.{Refused as RefusedItem, Read as ReadItem}
 use Rattle.proof_text.specs.declared.items.Next.{Next}
 use Rattle.proof_text.specs.declared.items.Next.TheVariants.{Row as NextRow, Work as NextWork, Layout as NextLayout}
-use Rattle.proof_text.specs.Reading.{line_number_after, ReadsTo, ReadsDocLine, RefusedAfter, IfRefused as IfItemRefused}
+use Rattle.proof_text.specs.Reading.{line_number_after, ReadsTo, ReadsDocLine, RefusedAfter, IsAtOf, IfRefused as IfItemRefused}
 use Rattle.proof_text.specs.Items.{ItemsState, ReadsRow, ReadsWork, ReadsNext}
 use Rattle.proof_text.specs.Cables.{ReadsCables, cables_left}
 use Rattle.proof_checker.specs.State.{CheckerState, Refuses}
@@ -38,7 +38,8 @@ use Rattle.document_check.specs.Progress.{HasCome, HasRead, IsRefusedFrom, Reads
 use Rattle.document_check.proofs.Onward.{from_of, come_first, read_on, refused_reading, row_on, row_refused, work_on, work_refused, claim_on, claim_refused}
 
 -- ---- faults
-at_none : {A P : Type 0} → (kept : Option A) → kept ≡ None → IfNone kept P → P
+-- what holds where nothing was kept
+pub at_none : {A P : Type 0} → (kept : Option A) → kept ≡ None → IfNone kept P → P
 at_none None e h = h
 at_none (Some a) e h = absurd (cc)
 
@@ -216,11 +217,11 @@ refused_claim s c new before after lines later number line cables claim refusal 
     claim_refused s c.arcs first before after start lines c.budget c.kept cables front read.0 claim refusal valid h read.1 (read.2 (state (AtCables 0) c.budget c.kept cables) refl) (there.line_is ∙ f ∙ n ∙ e) there.cause_is
 
 -- the verdict line is refused by reading
-pub refused_verdict : (s : Site) (c : CheckerState) (before : Option (List ℕ)) (lines : ℕ) (cables : List Cable) (refusal : Refusal) → ((r : Reader) → r.phase ≡ AtCables 0 → RefusedAfter s r before lines refusal)
+pub refused_verdict : (s : Site) (c : CheckerState) (before : Option (List ℕ)) (lines : ℕ) (cables : List Cable) (refusal : Refusal) → ((x : Site) (r : Reader) → IsAtOf s (AtCables 0) x r → RefusedAfter x r before lines refusal)
     → (front : List Item → List ℕ) → RefusesOn s c.arcs before lines (state (AtCables 0) c.budget c.kept cables) front refusal
 refused_verdict s c before lines cables refusal d front first start h =
     let r = state (AtCables 0) c.budget c.kept cables in
-    refused_reading s c.arcs first before start lines r (front h.items) refusal h.come (d r refl)
+    refused_reading s c.arcs first before start lines r (front h.items) refusal h.come (d s r (refl, refl))
 
 -- ---- the end of the document
 -- how many lines are counted behind the cables
@@ -287,7 +288,7 @@ accepted_end s arcs n count kept cables claim before after lines later first sta
 
 -- ---- the document
 -- no byte is left in the source either
-pub source_end : (pending : List ℕ) (left : Option (List ℕ)) → IsAtEnd (ahead pending left) → IsAtEnd left
+pub source_end : (pending : List ℕ) (left : Option (List ℕ)) → IsAtEnd (to_come pending left) → IsAtEnd left
 source_end pending None h = tt
 source_end [] (Some left) h = h
 source_end (b ∷ pending) (Some left) h = absurd (cc)

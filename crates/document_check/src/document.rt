@@ -7,7 +7,7 @@ ghost use Rattle.cable_definitions.specs.Refusal.{AtBudget, AtItem, AtCables, At
 ghost use Rattle.cable_definitions.specs.Text.{claim_line};
 ghost use Rattle.cable_definitions.specs.Tree.{Item, Agrees};
 ghost use Rattle.cable_definitions.specs.declared.claim.Refusal.{Refusal as AnyRefusal};
-ghost use Rattle.cable_text.specs.Stream.{Rose, IsAtEnd};
+ghost use Rattle.cable_text.specs.Stream.{FaultsRose, FaultsOnlyRise, IsAtEnd};
 ghost use Rattle.cable_text.specs.Lines.{ahead};
 ghost use Rattle.document_check.specs.Behind.{IsAcceptedBehind};
 ghost use Rattle.document_check.specs.Feeding.{FeedsNext, FeedsToLayout, fault_from};
@@ -64,13 +64,13 @@ fn begin_document<'a, S: Source>(
     ensures arcs { IfOk result (λ checker. AreArcs site.now checker.arcs) }
     ensures budget { IfOk result (λ checker. IsBudget checker.budget) }
     ensures open { IfOk result (λ checker. checker.refused ≡ None) }
-    ensures reads { IfOk result (λ checker. HasRead site.now checker.arcs (ahead lines.old.pending (S.left src.old)) (ahead lines.new.pending (S.left src.new))
+    ensures reads { IfOk result (λ checker. HasRead site.now checker.arcs (ahead lines.old (S.state src.old)) (ahead lines.new (S.state src.new))
         lines.old.lines lines.new.lines (state AtItem checker.budget checker.kept []) (items_text checker.budget)) }
     ensures readable { OnOk result (reader.new.kept ≡ None) }
     ensures kept { OnOk result (lines.new.kept ≡ None) }
-    ensures refused { IfRefused result (λ refusal. (arcs : List AnArc) → IsRefusedFrom site.now arcs (ahead lines.old.pending (S.left src.old)) lines.old.lines refusal) }
-    ensures read { IfRead result (Rose (S.faults src.old) (S.faults src.new)) }
-    ensures count { S.faults src.old ≤ S.faults src.new }
+    ensures refused { IfRefused result (λ refusal. (arcs : List AnArc) → IsRefusedFrom site.now arcs (ahead lines.old (S.state src.old)) lines.old.lines refusal) }
+    ensures read { IfRead result (FaultsRose (S.state src.old) (S.state src.new)) }
+    ensures count { FaultsOnlyRise (S.state src.old) (S.state src.new) }
 {
     let budget = match reader.budget(lines, src) {
         Ok(budget) => budget,
@@ -92,13 +92,13 @@ fn feed_item<S: Source>(
     requires open { checker.old.refused ≡ None }
     requires readable { reader.old.kept ≡ None }
     requires kept { lines.old.kept ≡ None }
-    ensures fed { IfOk result (FeedsNext checker.old checker.new (ahead lines.old.pending (S.left src.old)) (ahead lines.new.pending (S.left src.new)) lines.old.lines lines.new.lines) }
+    ensures fed { IfOk result (FeedsNext checker.old checker.new (ahead lines.old (S.state src.old)) (ahead lines.new (S.state src.new)) lines.old.lines lines.new.lines) }
     ensures readable { OnOk result (reader.new.kept ≡ None) }
     ensures kept { OnOk result (lines.new.kept ≡ None) }
-    ensures refused { IfRefused result (RefusesOn checker.old.site checker.old.arcs (ahead lines.old.pending (S.left src.old)) lines.old.lines
+    ensures refused { IfRefused result (RefusesOn checker.old.site checker.old.arcs (ahead lines.old (S.state src.old)) lines.old.lines
         (state AtItem checker.old.budget checker.old.kept []) (items_text checker.old.budget)) }
-    ensures read { IfRead result (Rose (S.faults src.old) (S.faults src.new)) }
-    ensures count { S.faults src.old ≤ S.faults src.new }
+    ensures read { IfRead result (FaultsRose (S.state src.old) (S.state src.new)) }
+    ensures count { FaultsOnlyRise (S.state src.old) (S.state src.new) }
 {
     match reader.next(lines, src) {
         Ok(Next::Row) => {
@@ -126,12 +126,12 @@ fn feed_items<S: Source>(
     requires open { checker.old.refused ≡ None }
     requires readable { reader.old.kept ≡ None }
     requires kept { lines.old.kept ≡ None }
-    ensures fed { IfOk result (FeedsToLayout checker.old checker.new (ahead lines.old.pending (S.left src.old)) (ahead lines.new.pending (S.left src.new)) lines.old.lines lines.new.lines) }
+    ensures fed { IfOk result (FeedsToLayout checker.old checker.new (ahead lines.old (S.state src.old)) (ahead lines.new (S.state src.new)) lines.old.lines lines.new.lines) }
     ensures kept { OnOk result (lines.new.kept ≡ None) }
-    ensures refused { IfRefused result (RefusesOn checker.old.site checker.old.arcs (ahead lines.old.pending (S.left src.old)) lines.old.lines
+    ensures refused { IfRefused result (RefusesOn checker.old.site checker.old.arcs (ahead lines.old (S.state src.old)) lines.old.lines
         (state AtItem checker.old.budget checker.old.kept []) (items_text checker.old.budget)) }
-    ensures read { IfRead result (Rose (S.faults src.old) (S.faults src.new)) }
-    ensures count { S.faults src.old ≤ S.faults src.new }
+    ensures read { IfRead result (FaultsRose (S.state src.old) (S.state src.new)) }
+    ensures count { FaultsOnlyRise (S.state src.old) (S.state src.new) }
 {
     'items: loop {
         match feed_item(checker, reader, lines, src) {
@@ -155,14 +155,14 @@ fn judge_claim<S: Source>(
     requires kept { lines.old.kept ≡ None }
     ensures agrees { IfOk result (Agrees site.now checker.old.budget checker.old.kept layout.now) }
     ensures range { IfOk result IsClaimInRange }
-    ensures reads { IfOk result (λ claim. (front : List Item → List ℕ) → ReadsOn site.now checker.old.arcs (ahead lines.old.pending (S.left src.old)) (ahead lines.new.pending (S.left src.new))
+    ensures reads { IfOk result (λ claim. (front : List Item → List ℕ) → ReadsOn site.now checker.old.arcs (ahead lines.old (S.state src.old)) (ahead lines.new (S.state src.new))
         lines.old.lines lines.new.lines (state (AtCables 0) checker.old.budget checker.old.kept layout.now) (state AtLast checker.old.budget checker.old.kept layout.now)
         front (λ items. front items ++ claim_line site.now claim)) }
     ensures kept { OnOk result (lines.new.kept ≡ None) }
-    ensures refused { IfRefused result (λ refusal. (front : List Item → List ℕ) → RefusesOn site.now checker.old.arcs (ahead lines.old.pending (S.left src.old)) lines.old.lines
+    ensures refused { IfRefused result (λ refusal. (front : List Item → List ℕ) → RefusesOn site.now checker.old.arcs (ahead lines.old (S.state src.old)) lines.old.lines
         (state (AtCables 0) checker.old.budget checker.old.kept layout.now) front refusal) }
-    ensures read { IfRead result (Rose (S.faults src.old) (S.faults src.new)) }
-    ensures count { S.faults src.old ≤ S.faults src.new }
+    ensures read { IfRead result (FaultsRose (S.state src.old) (S.state src.new)) }
+    ensures count { FaultsOnlyRise (S.state src.old) (S.state src.new) }
 {
     let _valid = site.points();
     let claim = match read_claim(lines, src, site) {
@@ -190,14 +190,14 @@ fn read_end_of_document<S: Source>(
     requires empty { layout.old ≡ [] }
     requires most { count ≤ 256 }
     ensures accepted { IfOk result (λ claim. (first : Option (List ℕ)) (start : ℕ) → AreArcs site.now checker.old.arcs → IsBudget checker.old.budget
-        → HasRead site.now checker.old.arcs first (ahead lines.old.pending (S.left src.old)) start lines.old.lines
+        → HasRead site.now checker.old.arcs first (ahead lines.old (S.state src.old)) start lines.old.lines
         (state (AtCables count) checker.old.budget checker.old.kept []) (text_to_layout checker.old.budget count)
         → IsAcceptedBehind site.now first layout.new claim) }
-    ensures whole { OnOk result (IsAtEnd (ahead lines.new.pending (S.left src.new))) }
-    ensures refused { IfRefused result (RefusesOn site.now checker.old.arcs (ahead lines.old.pending (S.left src.old)) lines.old.lines
+    ensures whole { OnOk result (IsAtEnd (ahead lines.new (S.state src.new))) }
+    ensures refused { IfRefused result (RefusesOn site.now checker.old.arcs (ahead lines.old (S.state src.old)) lines.old.lines
         (state (AtCables count) checker.old.budget checker.old.kept []) (text_to_layout checker.old.budget count)) }
-    ensures read { IfRead result (Rose (S.faults src.old) (S.faults src.new)) }
-    ensures count { S.faults src.old ≤ S.faults src.new }
+    ensures read { IfRead result (FaultsRose (S.state src.old) (S.state src.new)) }
+    ensures count { FaultsOnlyRise (S.state src.old) (S.state src.new) }
 {
     match read_layout(lines, src, site, count, true, layout) {
         Ok(()) => {}
@@ -225,15 +225,15 @@ pub fn read_document<S: Source>(
     src: &mut S,
 ) -> Result<Accepted, DocumentFault>
     requires { lines.old.kept ≡ None }
-    ensures accepted { IfOk result (λ d. IsAcceptedBehind site.now (ahead lines.old.pending (S.left src.old)) d.layout d.claim) }
-    ensures whole { OnOk result (IsAtEnd (S.left src.new)) }
+    ensures accepted { IfOk result (λ d. IsAcceptedBehind site.now (ahead lines.old (S.state src.old)) d.layout d.claim) }
+    ensures whole { OnOk result (IsAtEnd (S.state src.new).bytes) }
     // Line numbers are counted up to 2^64 - 1; a document that is refused has fewer than 60,000,000 lines
     // before the refusal.
     ensures refused { (refusal : AnyRefusal) (bytes : List ℕ) (arcs : List AnArc) → result ≡ Err (DocumentFault.Refused refusal)
-        → ahead lines.old.pending (S.left src.old) ≡ Some bytes → AreArcs site.now arcs → lines.old.lines + 60000000 < 2 ^ 64
+        → ahead lines.old (S.state src.old) ≡ Some bytes → AreArcs site.now arcs → lines.old.lines + 60000000 < 2 ^ 64
         → IsRefusedAfter site.now arcs AtBudget bytes (lines.old.lines + 1) refusal.line refusal.cause }
-    ensures read { result ≡ Err DocumentFault.Read → Rose (S.faults src.old) (S.faults src.new) }
-    ensures count { S.faults src.old ≤ S.faults src.new }
+    ensures read { result ≡ Err DocumentFault.Read → FaultsRose (S.state src.old) (S.state src.new) }
+    ensures count { FaultsOnlyRise (S.state src.old) (S.state src.new) }
 {
     let Ok(mut reader) = ItemReader::new(alloc) else {
         return Err(DocumentFault::Memory);

@@ -13,7 +13,7 @@ use Rattle.cable_definitions.specs.Tree.{Node, Item, root, empty_state, node_of}
 use Rattle.cable_definitions.specs.Text.{item_lines}
 use Rattle.cable_definitions.specs.Core.{Core, Found, Steps, Runs, held_count, first_core, are_row_items}
 use Rattle.cable_text.specs.declared.stream.Failed.{Failed}
-use Rattle.cable_text.specs.Stream.{Rose, Appends, Writes}
+use Rattle.cable_text.specs.Stream.{StreamState, FaultsRose, FaultsOnlyRise, Appends, Writes}
 use Rattle.cable_text.proofs.Writing.{Appends-nothing}
 use Rattle.run_definitions.specs.Rounds.{found, LeadToEnd}
 use Rattle.search_laws.specs.Cores.{IsCore}
@@ -110,20 +110,19 @@ ended-all s arcs n lanes rounds start begun ended valid are some is straight run
 
 -- ---- what was written
 -- the lines of the first items, and then those of a part
-pub tells-all : {A B : Type 0} (lanes : ℕ) (start : Option (List Cable)) {u : A} {r : Result B SearchFault} {s : Site} {arcs : List Arc} {n : ℕ} {begun : Core} {Reached : Core → Type 0} {now : List Item → Core} {a b c : Option (List ℕ)}
-    {i j k : ℕ} → Runs s arcs n (first_core s lanes) (found start) begun → Tells {A = A} (Ok u) a b i j (concat (map item_lines (first_core s lanes).items)) → (p : Advances r s arcs n begun Reached now b c j k)
-    → Tells r a c i k (concat (map item_lines p.core.items))
-tells-all lanes start {r = r} {s} {arcs} {n} {begun} {a = a} {b} {c} {i} {j} {k} runs told p =
+pub tells-all : {A B : Type 0} (lanes : ℕ) (start : Option (List Cable)) {u : A} {r : Result B SearchFault} {s : Site} {arcs : List Arc} {n : ℕ} {begun : Core} {Reached : Core → Type 0} {now : List Item → Core} {a b c : StreamState} → Runs s arcs n (first_core s lanes) (found start) begun → Tells {A = A} (Ok u) a b (concat (map item_lines (first_core s lanes).items)) → (p : Advances r s arcs n begun Reached now b c)
+    → Tells r a c (concat (map item_lines p.core.items))
+tells-all lanes start {r = r} {s} {arcs} {n} {begun} {a = a} {b} {c} runs told p =
     let first : List Item = (first_core s lanes).items in
     let same = same-begun s arcs n (first_core s lanes) begun start runs in
     let items : p.core.items ≡ first ++ p.items = p.added ∙ ap (λ (xs : List Item). xs ++ p.items) same.items in
-    subst (λ (text : List ℕ). Tells r a c i k text) (sym (ap (λ (xs : List Item). concat (map item_lines xs)) items ∙ lines-then first p.items)) (tells-then told p.tells)
+    subst (λ (text : List ℕ). Tells r a c text) (sym (ap (λ (xs : List Item). concat (map item_lines xs)) items ∙ lines-then first p.items)) (tells-then told p.tells)
 
 -- what stands where a search stops early
-pub part-told : {A : Type 0} (r : Result A SearchFault) (s : Site) (arcs : List Arc) (n : ℕ) (core : Core) (a b : Option (List ℕ)) (i j : ℕ) → IsCore s arcs n core → Tells r a b i j (concat (map item_lines core.items))
-    → OnErr r (WritesPart s arcs n a b)
-part-told (Ok u) s arcs n core a b i j is told = tt
-part-told (Err f) s arcs n core a b i j is told = record { items = core.items; kept = core.kept; accepted = is.accepted; written = told.part }
+pub part-told : {A : Type 0} (r : Result A SearchFault) (s : Site) (arcs : List Arc) (n : ℕ) (core : Core) (a b : StreamState) → IsCore s arcs n core → Tells r a b (concat (map item_lines core.items))
+    → OnErr r (WritesPart s arcs n a.bytes b.bytes)
+part-told (Ok u) s arcs n core a b is told = tt
+part-told (Err f) s arcs n core a b is told = record { items = core.items; kept = core.kept; accepted = is.accepted; written = told.part }
 
 -- where memory was lacking before anything was written
 pub part-none : {A : Type 0} (r : Result A SearchFault) (s : Site) (arcs : List Arc) (n : ℕ) (a : Option (List ℕ)) → OnErr r (WritesPart s arcs n a a)
@@ -131,10 +130,10 @@ part-none (Ok u) s arcs n a = tt
 part-none (Err f) s arcs n a = record { items = []; kept = empty_state; accepted = refl; written = ([], [], refl, Appends-nothing a) }
 
 -- where all was written and then memory was lacking
-pub part-whole : {A B : Type 0} {u : A} (r : Result B SearchFault) (s : Site) (arcs : List Arc) (n : ℕ) (core : Core) (a b : Option (List ℕ)) (i j : ℕ) → IsCore s arcs n core
-    → Tells {A = A} (Ok u) a b i j (concat (map item_lines core.items)) → OnErr r (WritesPart s arcs n a b)
-part-whole (Ok v) s arcs n core a b i j is told = tt
-part-whole (Err f) s arcs n core a b i j is told = record {
+pub part-whole : {A B : Type 0} {u : A} (r : Result B SearchFault) (s : Site) (arcs : List Arc) (n : ℕ) (core : Core) (a b : StreamState) → IsCore s arcs n core
+    → Tells {A = A} (Ok u) a b (concat (map item_lines core.items)) → OnErr r (WritesPart s arcs n a.bytes b.bytes)
+part-whole (Ok v) s arcs n core a b is told = tt
+part-whole (Err f) s arcs n core a b is told = record {
   items = core.items;
   kept = core.kept;
   accepted = is.accepted;
@@ -188,27 +187,27 @@ idle-at {t = t} {arcs} {brcs} {n} {lanes = lanes} {core} e f g h =
 abbrev pub Ends : Site → List Arc → ℕ → ℕ → Core → Core → Type 0
 Ends s arcs n lanes old after = (rounds : ℕ) × LeadToEnd s arcs n lanes rounds old after
 
-pub ends-at : {A : Type 0} (lanes : ℕ) {r : Result A SearchFault} {s t : Site} {arcs brcs : List Arc} {n m : ℕ} {old : Core} {now : List Item → Core} {a b : Option (List ℕ)} {i j : ℕ} → s ≡ t → arcs ≡ brcs → n ≡ m
-    → Advances r s arcs n old (Ends s arcs n lanes old) now a b i j → Advances r t brcs m old (Ends t brcs m lanes old) now a b i j
-ends-at lanes {r} {s} {t} {arcs} {brcs} {n} {m} {old} {now} {a} {b} {i} {j} e f g h =
-    subst (λ (k : ℕ). Advances r t brcs k old (Ends t brcs k lanes old) now a b i j) g
-    (subst (λ (xs : List Arc). Advances r t xs n old (Ends t xs n lanes old) now a b i j) f (subst (λ (x : Site). Advances r x arcs n old (Ends x arcs n lanes old) now a b i j) e h))
+pub ends-at : {A : Type 0} (lanes : ℕ) {r : Result A SearchFault} {s t : Site} {arcs brcs : List Arc} {n m : ℕ} {old : Core} {now : List Item → Core} {a b : StreamState} → s ≡ t → arcs ≡ brcs → n ≡ m
+    → Advances r s arcs n old (Ends s arcs n lanes old) now a b → Advances r t brcs m old (Ends t brcs m lanes old) now a b
+ends-at lanes {r} {s} {t} {arcs} {brcs} {n} {m} {old} {now} {a} {b} e f g h =
+    subst (λ (k : ℕ). Advances r t brcs k old (Ends t brcs k lanes old) now a b) g
+    (subst (λ (xs : List Arc). Advances r t xs n old (Ends t xs n lanes old) now a b) f (subst (λ (x : Site). Advances r x arcs n old (Ends x arcs n lanes old) now a b) e h))
 
 -- ---- all of it
 -- a search from its first state, whose rows were written, to where its rounds ended
-pub record IsWhole (s : Site) (arcs : List Arc) (n lanes : ℕ) (start : Incumbent) (begun : Core) (now : List Item → Core) (a b : Option (List ℕ)) (i j : ℕ) : Type 0 where
+pub record IsWhole (s : Site) (arcs : List Arc) (n lanes : ℕ) (start : Incumbent) (begun : Core) (now : List Item → Core) (a b : StreamState) : Type 0 where
   pub rounds : ℕ
   pub items : List Item
   pub lead : LeadToEnd s arcs n lanes rounds begun (now items)
   pub has_ended : HasEnded s arcs n start (now items)
   pub same : (now items).items ≡ items
-  pub told : Tells {A = Unit {0}} (Ok tt) a b i j (concat (map item_lines (now items).items))
+  pub told : Tells {A = Unit {0}} (Ok tt) a b (concat (map item_lines (now items).items))
 
-pub whole : {A : Type 0} {u : A} {s : Site} {arcs : List Arc} {n : ℕ} (lanes : ℕ) (start : Incumbent) {begun : Core} {now : List Item → Core} {a b c : Option (List ℕ)} {i j k : ℕ}
+pub whole : {A : Type 0} {u : A} {s : Site} {arcs : List Arc} {n : ℕ} (lanes : ℕ) (start : Incumbent) {begun : Core} {now : List Item → Core} {a b c : StreamState}
     → ((items : List Item) → (now items).items ≡ items) → IsValid s → AreArcs s arcs → 1 ≤ n → CanBegin s start → BeatsStraight s start → Runs s arcs n (first_core s lanes) (found (layout_of start)) begun
-    → Tells {A = Unit {0}} (Ok tt) a b i j (concat (map item_lines (first_core s lanes).items)) → Advances {A = A} (Ok u) s arcs n begun (Ends s arcs n lanes begun) now b c j k
-    → ((items : List Item) → IsFloored s (now items).kept.nodes) → IsWhole s arcs n lanes start begun now a c i k
-whole {u = u} {s} {arcs} {n} lanes start {begun} {now} {a} {b} {c} {i} {j} {k} named valid are some is straight runs told p floored =
+    → Tells {A = Unit {0}} (Ok tt) a b (concat (map item_lines (first_core s lanes).items)) → Advances {A = A} (Ok u) s arcs n begun (Ends s arcs n lanes begun) now b c
+    → ((items : List Item) → IsFloored s (now items).kept.nodes) → IsWhole s arcs n lanes start begun now a c
+whole {u = u} {s} {arcs} {n} lanes start {begun} {now} {a} {b} {c} named valid are some is straight runs told p floored =
     let items : List Item = p.core.items in
     let at : p.core ≡ now items = p.reached.1 in
     let lead : LeadToEnd s arcs n lanes p.reached.0.0 begun (now items) = subst (LeadToEnd s arcs n lanes p.reached.0.0 begun) at p.reached.0.1 in
@@ -218,35 +217,35 @@ whole {u = u} {s} {arcs} {n} lanes start {begun} {now} {a} {b} {c} {i} {j} {k} n
       lead = lead;
       has_ended = ended-all s arcs n lanes p.reached.0.0 start begun (now items) valid are some is straight runs lead (floored items);
       same = named items;
-      told = tells-ok tt (subst (λ (x : Core). Tells (Ok u) a c i k (concat (map item_lines x.items))) at (tells-all lanes (layout_of start) runs told p));
+      told = tells-ok tt (subst (λ (x : Core). Tells (Ok u) a c (concat (map item_lines x.items))) at (tells-all lanes (layout_of start) runs told p));
     }
 
 -- where the rounds stopped early
-pub record IsStopped {A : Type 0} (r : Result A SearchFault) (s : Site) (arcs : List Arc) (n : ℕ) (a b : Option (List ℕ)) (i j : ℕ) : Type 0 where
-  pub part : OnErr r (WritesPart s arcs n a b)
-  pub failed : r ≡ Err Write → Rose i j
-  pub count : i ≤ j
+pub record IsStopped {A : Type 0} (r : Result A SearchFault) (s : Site) (arcs : List Arc) (n : ℕ) (a b : StreamState) : Type 0 where
+  pub part : OnErr r (WritesPart s arcs n a.bytes b.bytes)
+  pub failed : r ≡ Err Write → FaultsRose a b
+  pub count : FaultsOnlyRise a b
 
 pub stopped-early : {A B : Type 0} (lanes : ℕ) (start : Option (List Cable)) {f : SearchFault} {r : Result B SearchFault} {s : Site} {arcs : List Arc} {n : ℕ} {begun : Core} {Reached : Core → Type 0} {now : List Item → Core}
-    {a b c : Option (List ℕ)} {i j k : ℕ} → IsValid s → AreArcs s arcs → Runs s arcs n (first_core s lanes) (found start) begun
-    → Tells {A = Unit {0}} (Ok tt) a b i j (concat (map item_lines (first_core s lanes).items)) → IsErr r → IsErrAnd r (λ fault. fault ≡ f) → Advances {A = A} (Err f) s arcs n begun Reached now b c j k → IsStopped r s arcs n a c i k
-stopped-early lanes start {r = r} {s} {arcs} {n} {begun} {now = now} {a} {b} {c} {i} {j} {k} valid are runs told h e p =
-    let q : Advances r s arcs n begun (λ after. Unit {0}) now b c j k = advances-failed h e p in
+    {a b c : StreamState} → IsValid s → AreArcs s arcs → Runs s arcs n (first_core s lanes) (found start) begun
+    → Tells {A = Unit {0}} (Ok tt) a b (concat (map item_lines (first_core s lanes).items)) → IsErr r → IsErrAnd r (λ fault. fault ≡ f) → Advances {A = A} (Err f) s arcs n begun Reached now b c → IsStopped r s arcs n a c
+stopped-early lanes start {r = r} {s} {arcs} {n} {begun} {now = now} {a} {b} {c} valid are runs told h e p =
+    let q : Advances r s arcs n begun (λ after. Unit {0}) now b c = advances-failed h e p in
     let all = tells-all lanes start runs told q in
     record {
-      part = part-told r s arcs n q.core a c i k (run-core s arcs n begun q.core q.events valid are (begun-idle s arcs n lanes start begun valid are runs).is_core q.runs) all;
+      part = part-told r s arcs n q.core a c (run-core s arcs n begun q.core q.events valid are (begun-idle s arcs n lanes start begun valid are runs).is_core q.runs) all;
       failed = all.failed;
       count = all.count;
     }
 
 -- the first rows, written
-pub told-first : {A : Type 0} {u : A} {a b : Option (List ℕ)} {i j : ℕ} (s : Site) (lanes : ℕ) (pool rows : List Row) (first : Core) → pool ≡ rows → first.kept.rows ≡ rows → first ≡ first_core s lanes
-    → Writes {A = A} {E = Failed} (Ok u) a b i j (concat (map item_lines (are_row_items (drop 0 pool)))) → Tells {A = Unit {0}} (Ok tt) a b i j (concat (map item_lines (first_core s lanes).items))
-told-first {A} {u} {a} {b} {i} {j} s lanes pool rows first e f is p =
-    tells-written tt (subst (λ (text : List ℕ). Writes {A = A} {E = Failed} (Ok u) a b i j text) (first-text s lanes pool rows first e f is) p)
+pub told-first : {A : Type 0} {u : A} {a b : StreamState} (s : Site) (lanes : ℕ) (pool rows : List Row) (first : Core) → pool ≡ rows → first.kept.rows ≡ rows → first ≡ first_core s lanes
+    → Writes {A = A} {E = Failed} (Ok u) a b (concat (map item_lines (are_row_items (drop 0 pool)))) → Tells {A = Unit {0}} (Ok tt) a b (concat (map item_lines (first_core s lanes).items))
+told-first {A} {u} {a} {b} s lanes pool rows first e f is p =
+    tells-written tt (subst (λ (text : List ℕ). Writes {A = A} {E = Failed} (Ok u) a b text) (first-text s lanes pool rows first e f is) p)
 
 -- and not written whole
-pub failed-first : {A B : Type 0} {f : Failed} {r : Result B SearchFault} {a b : Option (List ℕ)} {i j : ℕ} (s : Site) (lanes : ℕ) (pool rows : List Row) (first : Core) → pool ≡ rows → first.kept.rows ≡ rows → first ≡ first_core s lanes
-    → IsErr r → Writes {A = A} {E = Failed} (Err f) a b i j (concat (map item_lines (are_row_items (drop 0 pool)))) → Tells r a b i j (concat (map item_lines (first_core s lanes).items))
-failed-first {A} {f = f} {a = a} {b} {i} {j} s lanes pool rows first e g is h p =
-    tells-failed h (subst (λ (text : List ℕ). Writes {A = A} {E = Failed} (Err f) a b i j text) (first-text s lanes pool rows first e g is) p)
+pub failed-first : {A B : Type 0} {f : Failed} {r : Result B SearchFault} {a b : StreamState} (s : Site) (lanes : ℕ) (pool rows : List Row) (first : Core) → pool ≡ rows → first.kept.rows ≡ rows → first ≡ first_core s lanes
+    → IsErr r → Writes {A = A} {E = Failed} (Err f) a b (concat (map item_lines (are_row_items (drop 0 pool)))) → Tells r a b (concat (map item_lines (first_core s lanes).items))
+failed-first {A} {f = f} {a = a} {b} s lanes pool rows first e g is h p =
+    tells-failed h (subst (λ (text : List ℕ). Writes {A = A} {E = Failed} (Err f) a b text) (first-text s lanes pool rows first e g is) p)

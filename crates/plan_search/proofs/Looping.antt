@@ -10,6 +10,7 @@ use Rattle.run_definitions.specs.Rounds.{round, IsAtEnd, LeadToEnd}
 use Rattle.search_laws.proofs.Stepping.{run-core}
 use Rattle.search_core.specs.declared.progress.Ended.{Ended}
 use Rattle.search_core.specs.declared.progress.Ended.TheVariants.{Closed, Budget}
+use Rattle.cable_text.specs.Stream.{StreamState}
 use Rattle.plan_search.specs.Rounds.{AreRounds, IsIdle}
 use Rattle.plan_search.specs.Steps.{Advances}
 use Rattle.plan_search.proofs.Rounding.{rounds-end}
@@ -30,8 +31,8 @@ pub record IsFurther (s : Site) (arcs : List Arc) (n lanes works : ℕ) (now : L
   pub rises : works < (now items).kept.works
   pub most : (now items).kept.works ≤ n
 
-pub round-further : {A : Type 0} {u : A} {a b : Option (List ℕ)} {i j : ℕ} (s : Site) (arcs : List Arc) (n lanes : ℕ) (old : Core) (now : List Item → Core) → IsValid s → AreArcs s arcs → 1 ≤ lanes → IsIdle s arcs n lanes old
-    → ¬ (IsAtEnd s n old) → Advances {A = A} (Ok u) s arcs n old (Runs s arcs n old (round lanes)) now a b i j → IsFurther s arcs n lanes old.kept.works now
+pub round-further : {A : Type 0} {u : A} {a b : StreamState} (s : Site) (arcs : List Arc) (n lanes : ℕ) (old : Core) (now : List Item → Core) → IsValid s → AreArcs s arcs → 1 ≤ lanes → IsIdle s arcs n lanes old
+    → ¬ (IsAtEnd s n old) → Advances {A = A} (Ok u) s arcs n old (Runs s arcs n old (round lanes)) now a b → IsFurther s arcs n lanes old.kept.works now
 round-further s arcs n lanes old now valid are some idle on advances =
     let runs : Runs s arcs n old (round lanes) (now advances.core.items) = subst (Runs s arcs n old (round lanes)) advances.reached.1 advances.reached.0 in
     let next = idle-round s arcs n lanes old (now advances.core.items) valid are idle runs in
@@ -55,9 +56,9 @@ has-ended s n core (Some Closed) other closed spent = inl (closed.0 refl)
 has-ended s n core (Some Budget) other closed spent = inr (spent.0 refl)
 
 -- so the rounds have led to the end
-pub advances-end : {A : Type 0} (lanes : ℕ) {u : A} {s : Site} {arcs : List Arc} {n : ℕ} {old : Core} {now : List Item → Core} {a b : Option (List ℕ)} {i j : ℕ} → ((items : List Item) → IsAtEnd s n (now items))
-    → Advances {A = A} (Ok u) s arcs n old (λ after. (rounds : ℕ) × AreRounds s arcs n lanes rounds old after) now a b i j
-    → Advances {A = A} (Ok u) s arcs n old (λ after. (rounds : ℕ) × LeadToEnd s arcs n lanes rounds old after) now a b i j
+pub advances-end : {A : Type 0} (lanes : ℕ) {u : A} {s : Site} {arcs : List Arc} {n : ℕ} {old : Core} {now : List Item → Core} {a b : StreamState} → ((items : List Item) → IsAtEnd s n (now items))
+    → Advances {A = A} (Ok u) s arcs n old (λ after. (rounds : ℕ) × AreRounds s arcs n lanes rounds old after) now a b
+    → Advances {A = A} (Ok u) s arcs n old (λ after. (rounds : ℕ) × LeadToEnd s arcs n lanes rounds old after) now a b
 advances-end lanes {s = s} {arcs} {n} {old} {now} ends p = record {
   events = p.events;
   core = p.core;

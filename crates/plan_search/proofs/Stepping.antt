@@ -1,5 +1,5 @@
 -- Steps of a search as steps of its core.
-use Rattle.std.proofs.Common.{append_assoc, ◌≡◌, ◌≢◌, ℕ, suc, ◌+◌, ◌≤◌, inl, inr, List, [], ◌∷◌, ◌++◌, Option, Result, Ok, Err, IsErr, length, map, drop, refl, sym, ◌∙◌, ap, subst, arith}
+use Rattle.std.proofs.Common.{append_assoc, ◌≡◌, ◌≢◌, ℕ, suc, ◌+◌, ◌≤◌, inl, inr, List, [], ◌∷◌, ◌++◌, Result, Ok, Err, IsErr, length, map, drop, refl, sym, ◌∙◌, ap, subst, arith}
 use Rattle.std.specs.List.{concat}
 use Rattle.std.proofs.lemmas.List.{append-nil, length-append}
 use Rattle.cable_definitions.specs.declared.cable.Arc.{Arc}
@@ -8,7 +8,7 @@ use Rattle.cable_definitions.specs.Tree.{Item}
 use Rattle.cable_definitions.specs.Core.{Core, Event, Take, Work, Works, Steps, Runs, are_row_items}
 use Rattle.cable_definitions.specs.Text.{item_lines}
 use Rattle.cable_text.specs.declared.stream.Failed.{Failed}
-use Rattle.cable_text.specs.Stream.{Writes}
+use Rattle.cable_text.specs.Stream.{StreamState, Writes}
 use Rattle.run_definitions.specs.Rounds.{numbers_below}
 use Rattle.search_core.specs.Lists.{Lists}
 use Rattle.search_core.specs.Works.{last_item}
@@ -94,10 +94,10 @@ did-worked s arcs n old lane new step did lists from to e =
     (omega (arith, more), omega (arith, count, both, is))
 
 -- a work of a lane that was written
-pub advances-step : {A B : Type 0} {u : A} {v : B} {s : Site} {arcs : List Arc} {n : ℕ} {old new : Progress} {event : Event} {a b : Option (List ℕ)} {i j : ℕ} (step : Step) (items : List Item) → Did s arcs n old event new step
-    → Writes {A = A} {E = Failed} (Ok u) a b i j (concat (map item_lines (items_after new step)))
-    → Advances {A = B} (Ok v) s arcs n (core_of items old) (Runs s arcs n (core_of items old) (event ∷ [])) (λ more. core_of more new) a b i j
-advances-step {A = A} {u = u} {v} {s} {arcs} {n} {old} {new} {event} {a} {b} {i} {j} step items did p =
+pub advances-step : {A B : Type 0} {u : A} {v : B} {s : Site} {arcs : List Arc} {n : ℕ} {old new : Progress} {event : Event} {a b : StreamState} (step : Step) (items : List Item) → Did s arcs n old event new step
+    → Writes {A = A} {E = Failed} (Ok u) a b (concat (map item_lines (items_after new step)))
+    → Advances {A = B} (Ok v) s arcs n (core_of items old) (Runs s arcs n (core_of items old) (event ∷ [])) (λ more. core_of more new) a b
+advances-step {A = A} {u = u} {v} {s} {arcs} {n} {old} {new} {event} {a} {b} step items did p =
     let now : Core = core_of (items ++ items_of old new step) new in
     let runs : Runs s arcs n (core_of items old) (event ∷ []) now = (now, did-steps s arcs n old event new step items did, refl) in
     record {
@@ -106,15 +106,14 @@ advances-step {A = A} {u = u} {v} {s} {arcs} {n} {old} {new} {event} {a} {b} {i}
       runs = runs;
       items = items_of old new step;
       added = refl;
-      tells = tells-written v (subst (λ (xs : List Item). Writes {A = A} {E = Failed} (Ok u) a b i j (concat (map item_lines xs))) (sym (items-after s arcs n old event new step did)) p);
+      tells = tells-written v (subst (λ (xs : List Item). Writes {A = A} {E = Failed} (Ok u) a b (concat (map item_lines xs))) (sym (items-after s arcs n old event new step did)) p);
       reached = (runs, refl);
     }
 
 -- one that wasn't written whole
-pub advances-step-failed : {A B : Type 0} {e : Failed} {r : Result B SearchFault} {s : Site} {arcs : List Arc} {n : ℕ} {old new : Progress} {event : Event} {Reached : Core → Type 0} {state : List Item → Core} {a b : Option (List ℕ)}
-    {i j : ℕ} (step : Step) (items : List Item) → Did s arcs n old event new step → IsErr r → Writes {A = A} {E = Failed} (Err e) a b i j (concat (map item_lines (items_after new step)))
-    → Advances r s arcs n (core_of items old) Reached state a b i j
-advances-step-failed {A = A} {e = e} {r} {s} {arcs} {n} {old} {new} {event} {a = a} {b} {i} {j} step items did h p =
+pub advances-step-failed : {A B : Type 0} {e : Failed} {r : Result B SearchFault} {s : Site} {arcs : List Arc} {n : ℕ} {old new : Progress} {event : Event} {Reached : Core → Type 0} {state : List Item → Core} {a b : StreamState} (step : Step) (items : List Item) → Did s arcs n old event new step → IsErr r → Writes {A = A} {E = Failed} (Err e) a b (concat (map item_lines (items_after new step)))
+    → Advances r s arcs n (core_of items old) Reached state a b
+advances-step-failed {A = A} {e = e} {r} {s} {arcs} {n} {old} {new} {event} {a = a} {b} step items did h p =
     let now : Core = core_of (items ++ items_of old new step) new in
     record {
       events = event ∷ [];
@@ -122,7 +121,7 @@ advances-step-failed {A = A} {e = e} {r} {s} {arcs} {n} {old} {new} {event} {a =
       runs = (now, did-steps s arcs n old event new step items did, refl);
       items = items_of old new step;
       added = refl;
-      tells = tells-failed h (subst (λ (xs : List Item). Writes {A = A} {E = Failed} (Err e) a b i j (concat (map item_lines xs))) (sym (items-after s arcs n old event new step did)) p);
+      tells = tells-failed h (subst (λ (xs : List Item). Writes {A = A} {E = Failed} (Err e) a b (concat (map item_lines xs))) (sym (items-after s arcs n old event new step did)) p);
       reached = none_ok _ r h;
     }
 
@@ -141,8 +140,8 @@ works-more s arcs n lanes lane old mid new before step =
     (runs-then s arcs n old mid new (takes ++ works) (Work lane ∷ []) before step)
 
 -- a part of the search, told by the parts of an earlier state
-pub advances-moved : {F G A : Type 0} (events : List Event) {first second : State F G} {r : Result A SearchFault} {old : Core} {now : List Item → Core} {a b : Option (List ℕ)} {i j : ℕ} → KeepsParts first second
-    → Advances r second.site second.arcs second.progress.budget old (Runs second.site second.arcs second.progress.budget old events) now a b i j
-    → Advances r first.site first.arcs first.progress.budget old (Runs first.site first.arcs first.progress.budget old events) now a b i j
-advances-moved events {r = r} {old} {now} {a} {b} {i} {j} p h =
-    kept-parts (λ (s : Site) (arcs : List Arc) (n : ℕ). Advances r s arcs n old (Runs s arcs n old events) now a b i j) p h
+pub advances-moved : {F G A : Type 0} (events : List Event) {first second : State F G} {r : Result A SearchFault} {old : Core} {now : List Item → Core} {a b : StreamState} → KeepsParts first second
+    → Advances r second.site second.arcs second.progress.budget old (Runs second.site second.arcs second.progress.budget old events) now a b
+    → Advances r first.site first.arcs first.progress.budget old (Runs first.site first.arcs first.progress.budget old events) now a b
+advances-moved events {r = r} {old} {now} {a} {b} p h =
+    kept-parts (λ (s : Site) (arcs : List Arc) (n : ℕ). Advances r s arcs n old (Runs s arcs n old events) now a b) p h

@@ -1,5 +1,5 @@
 -- The lines of rows and of steps.
-use Rattle.std.proofs.Common.{◌≡◌, ℕ, ◌+◌, ◌-◌, ◌<◌, ◌≤◌, List, [], ◌∷◌, ◌++◌, Option, Result, Ok, Err, IsErr, map, take, drop, length, get_or, slice_get, Some, refl, sym, ◌∙◌, ap, arith}
+use Rattle.std.proofs.Common.{◌≡◌, ℕ, ◌+◌, ◌-◌, ◌<◌, ◌≤◌, List, [], ◌∷◌, ◌++◌, Result, Ok, Err, IsErr, map, take, drop, length, get_or, slice_get, Some, refl, sym, ◌∙◌, ap, arith}
 use Rattle.std.specs.List.{concat}
 use Rattle.std.proofs.lemmas.List.{append-nil, map-append, get_or-drop, length-drop, take_all}
 use Rattle.std.proofs.lemmas.List.Folds.{concat-append}
@@ -10,9 +10,9 @@ use Rattle.cable_definitions.specs.Tree.{Item}
 use Rattle.cable_definitions.specs.Text.{row_line, item_lines}
 use Rattle.cable_definitions.specs.Core.{are_row_items}
 use Rattle.cable_text.specs.declared.stream.Failed.{Failed}
-use Rattle.cable_text.specs.Stream.{Writes}
+use Rattle.cable_text.specs.Stream.{StreamState, Writes}
 use Rattle.cable_text.proofs.Writing.{Writes-then}
-use Rattle.site_text.proofs.Writers.{stopped, wrote_more_of, wrote_part, written_as}
+use Rattle.cable_text.proofs.Writers.{stopped, wrote_more_of, wrote_part, written_as}
 use Rattle.search_core.specs.Works.{last_item}
 use Rattle.search_core.specs.declared.progress.Progress.{Progress}
 use Rattle.search_core.specs.declared.search.Step.{Step}
@@ -44,10 +44,10 @@ row_at rows from at kind members l within kind_is members_are =
     same ∙ sym (get_or-drop from rows (at - from) x ∙ ap (λ (k : ℕ). get_or rows k x) place)
 
 -- one row further
-pub rows-more : (rows : List Row) (from at : ℕ) (kind : RowKind) (members : List ℕ) {u v : Unit {0}} {a b c : Option (List ℕ)} {i j k : ℕ} → from ≤ at → at < length rows
+pub rows-more : (rows : List Row) (from at : ℕ) (kind : RowKind) (members : List ℕ) {u v : Unit {0}} {a b c : StreamState} → from ≤ at → at < length rows
     → ((r : Row) → slice_get rows at ≡ Some r → kind ≡ r.kind) → ((r : Row) → slice_get rows at ≡ Some r → members ≡ r.members)
-    → Writes {A = Unit {0}} {E = Failed} (Ok u) a b i j (lines_between rows from at) → Writes {A = Unit {0}} {E = Failed} (Ok v) b c j k (row_line (record { kind = kind; members = members }))
-    → Writes {A = Unit {0}} {E = Failed} (Ok v) a c i k (lines_between rows from (at + 1))
+    → Writes {A = Unit {0}} {E = Failed} (Ok u) a b (lines_between rows from at) → Writes {A = Unit {0}} {E = Failed} (Ok v) b c (row_line (record { kind = kind; members = members }))
+    → Writes {A = Unit {0}} {E = Failed} (Ok v) a c (lines_between rows from (at + 1))
 rows-more rows from at kind members l within kind_is members_are p q =
     let count = length-drop from rows in
     let next : (at - from) + 1 ≡ at + 1 - from = omega (arith, l) in
@@ -56,10 +56,10 @@ rows-more rows from at kind members l within kind_is members_are p q =
     (ap (λ (m : ℕ). concat (map row_line (take m (drop from rows)))) (sym next))
 
 -- a row that failed
-pub rows-part : (rows : List Row) (from at : ℕ) (kind : RowKind) (members : List ℕ) {u : Unit {0}} {e : Failed} {r : Result (Unit {0}) Failed} {a b c : Option (List ℕ)} {i j k : ℕ} → from ≤ at → at < length rows
+pub rows-part : (rows : List Row) (from at : ℕ) (kind : RowKind) (members : List ℕ) {u : Unit {0}} {e : Failed} {r : Result (Unit {0}) Failed} {a b c : StreamState} → from ≤ at → at < length rows
     → ((r : Row) → slice_get rows at ≡ Some r → kind ≡ r.kind) → ((r : Row) → slice_get rows at ≡ Some r → members ≡ r.members) → IsErr r
-    → Writes {A = Unit {0}} {E = Failed} (Ok u) a b i j (lines_between rows from at) → Writes {A = Unit {0}} {E = Failed} (Err e) b c j k (row_line (record { kind = kind; members = members }))
-    → Writes r a c i k (concat (map item_lines (are_row_items (drop from rows))))
+    → Writes {A = Unit {0}} {E = Failed} (Ok u) a b (lines_between rows from at) → Writes {A = Unit {0}} {E = Failed} (Err e) b c (row_line (record { kind = kind; members = members }))
+    → Writes r a c (concat (map item_lines (are_row_items (drop from rows))))
 rows-part rows from at kind members {r = r} l within kind_is members_are failed p q =
     let count = length-drop from rows in
     let x : Row = record { kind = kind; members = members } in
@@ -68,8 +68,8 @@ rows-part rows from at kind members {r = r} l within kind_is members_are failed 
     (lines-rows (drop from rows))
 
 -- all rows
-pub rows-all : (rows : List Row) (from at : ℕ) {u : Unit {0}} {a b : Option (List ℕ)} {i j : ℕ} → from ≤ length rows → at ≡ length rows → Writes {A = Unit {0}} {E = Failed} (Ok u) a b i j (lines_between rows from at)
-    → Writes {A = Unit {0}} {E = Failed} (Ok u) a b i j (concat (map item_lines (are_row_items (drop from rows))))
+pub rows-all : (rows : List Row) (from at : ℕ) {u : Unit {0}} {a b : StreamState} → from ≤ length rows → at ≡ length rows → Writes {A = Unit {0}} {E = Failed} (Ok u) a b (lines_between rows from at)
+    → Writes {A = Unit {0}} {E = Failed} (Ok u) a b (concat (map item_lines (are_row_items (drop from rows))))
 rows-all rows from at l all p =
     let count = length-drop from rows in
     let whole : take (at - from) (drop from rows) ≡ drop from rows = take_all (at - from) (drop from rows) (omega (arith, l, all, count)) in
@@ -84,12 +84,12 @@ worked-lines p step from to e =
     ∙ ap (λ (l : List ℕ). concat (map item_lines (are_row_items (drop from p.pool))) ++ l) (append-nil (item_lines (last_item p)))
 
 -- its rows failed
-pub step-part : (p : Progress) (step : Step) (from to : ℕ) {e : Failed} {r : Result (Unit {0}) Failed} {a b : Option (List ℕ)} {i j : ℕ} → step ≡ Worked from to → IsErr r
-    → Writes {A = Unit {0}} (Err e) a b i j (concat (map item_lines (are_row_items (drop from p.pool)))) → Writes r a b i j (concat (map item_lines (items_after p step)))
+pub step-part : (p : Progress) (step : Step) (from to : ℕ) {e : Failed} {r : Result (Unit {0}) Failed} {a b : StreamState} → step ≡ Worked from to → IsErr r
+    → Writes {A = Unit {0}} (Err e) a b (concat (map item_lines (are_row_items (drop from p.pool)))) → Writes r a b (concat (map item_lines (items_after p step)))
 step-part p step from to e h q = stopped (item_lines (last_item p)) h q (worked-lines p step from to e)
 
 -- its rows were written, and then its work
-pub step-whole : (p : Progress) (step : Step) (from to : ℕ) {u : Unit {0}} {r : Result (Unit {0}) Failed} {a b c : Option (List ℕ)} {i j k : ℕ} → step ≡ Worked from to
-    → Writes {A = Unit {0}} {E = Failed} (Ok u) a b i j (concat (map item_lines (are_row_items (drop from p.pool)))) → Writes r b c j k (item_lines (last_item p))
-    → Writes r a c i k (concat (map item_lines (items_after p step)))
+pub step-whole : (p : Progress) (step : Step) (from to : ℕ) {u : Unit {0}} {r : Result (Unit {0}) Failed} {a b c : StreamState} → step ≡ Worked from to
+    → Writes {A = Unit {0}} {E = Failed} (Ok u) a b (concat (map item_lines (are_row_items (drop from p.pool)))) → Writes r b c (item_lines (last_item p))
+    → Writes r a c (concat (map item_lines (items_after p step)))
 step-whole p step from to e q w = written_as (Writes-then q w) (worked-lines p step from to e)

@@ -3,7 +3,7 @@
 ghost use Rattle.std.specs.Prelude.{◌≡◌, ◌≤◌, Err, IfOk, OnErr, IfSome};
 ghost use Rattle.cable_definitions.specs.Arcs.{AreArcs};
 ghost use Rattle.cable_definitions.specs.Core.{first_core};
-ghost use Rattle.cable_text.specs.Stream.{Rose};
+ghost use Rattle.cable_text.specs.Stream.{FaultsRose, FaultsOnlyRise};
 ghost use Rattle.search_core.specs.State.{IsRunning, core};
 ghost use Rattle.stored_makers.specs.Makers.{AreShares, IsSoundRow, row_made};
 ghost use Rattle.stored_makers.specs.Choosers.{AreBeside, IsFreeChoice};
@@ -90,10 +90,10 @@ fn search_with<
     requires first { core (first_core site.now lanes).items search.old ≡ first_core site.now lanes }
     requires some { 1 ≤ search.old.progress.budget }
     requires some_lanes { 1 ≤ lanes }
-    ensures plan { IfOk result (λ plan. FindsPlan site.now arcs.now search.old.progress.budget lanes (O.taken out.old) (O.taken out.new) plan.layout plan.claim) }
-    ensures part { OnErr result (WritesPart site.now arcs.now search.old.progress.budget (O.taken out.old) (O.taken out.new)) }
-    ensures failed { result ≡ Err SearchFault.Write → Rose (O.faults out.old) (O.faults out.new) }
-    ensures count { O.faults out.old ≤ O.faults out.new }
+    ensures plan { IfOk result (λ plan. FindsPlan site.now arcs.now search.old.progress.budget lanes (O.state out.old).bytes (O.state out.new).bytes plan.layout plan.claim) }
+    ensures part { OnErr result (WritesPart site.now arcs.now search.old.progress.budget (O.state out.old).bytes (O.state out.new).bytes) }
+    ensures failed { result ≡ Err SearchFault.Write → FaultsRose (O.state out.old) (O.state out.new) }
+    ensures count { FaultsOnlyRise (O.state out.old) (O.state out.new) }
 {
     write_rows(search.pool(), 0, out)?;
     let start = first_incumbent(alloc, site, arcs)?;
@@ -128,10 +128,10 @@ pub fn search<O: Sink>(
     requires most { budget ≤ 50000 }
     requires some_lanes { 1 ≤ lanes }
     requires most_lanes { lanes ≤ 16 }
-    ensures plan { IfOk result (λ plan. FindsPlan site.now arcs.now budget lanes (O.taken out.old) (O.taken out.new) plan.layout plan.claim) }
-    ensures part { OnErr result (WritesPart site.now arcs.now budget (O.taken out.old) (O.taken out.new)) }
-    ensures failed { result ≡ Err SearchFault.Write → Rose (O.faults out.old) (O.faults out.new) }
-    ensures count { O.faults out.old ≤ O.faults out.new }
+    ensures plan { IfOk result (λ plan. FindsPlan site.now arcs.now budget lanes (O.state out.old).bytes (O.state out.new).bytes plan.layout plan.claim) }
+    ensures part { OnErr result (WritesPart site.now arcs.now budget (O.state out.old).bytes (O.state out.new).bytes) }
+    ensures failed { result ≡ Err SearchFault.Write → FaultsRose (O.state out.old) (O.state out.new) }
+    ensures count { FaultsOnlyRise (O.state out.old) (O.state out.new) }
 {
     let all_crossings = Crossings::new(alloc, site, arcs)?;
     let crossings = &all_crossings;

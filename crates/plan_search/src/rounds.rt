@@ -30,7 +30,7 @@ use std::alloc::{AllocError, Global};
 /// `Failed` only where the count of `out` rose or stands at its last value; a first part of the rows was appended then.
 pub(crate) fn write_rows<O: Sink>(pool: &RowPool, from: u32, out: &mut O) -> Result<(), Failed>
     requires { from ≤ length pool.now }
-    ensures { Writes result (O.taken out.old) (O.taken out.new) (O.faults out.old) (O.faults out.new) (concat (map item_lines (are_row_items (drop from pool.now)))) }
+    ensures { Writes result (O.state out.old) (O.state out.new) (concat (map item_lines (are_row_items (drop from pool.now)))) }
 {
     for row in from..pool.len() {
         write_row(pool.kind(row), pool.members(row), out)?;
@@ -49,7 +49,7 @@ fn write_step<
     G: Fn(&Arcs, &Decisions, &Shares) -> Option<u32>,
 >(search: &Search<'_, F, G>, step: Step, out: &mut O) -> Result<(), Failed>
     requires worked { (from to : ℕ) → step ≡ Step.Worked from to → (1 ≤ search.now.progress.tree.works) × (from ≤ length search.now.progress.pool) }
-    ensures { Writes result (O.taken out.old) (O.taken out.new) (O.faults out.old) (O.faults out.new) (concat (map item_lines (items_after search.now.progress step))) }
+    ensures { Writes result (O.state out.old) (O.state out.new) (concat (map item_lines (items_after search.now.progress step))) }
 {
     match step {
         Step::Worked { rows_from, .. } => {
@@ -76,7 +76,7 @@ fn work_lane<
     ensures parts { KeepsParts search.old search.new }
     ensures advances { (items : List Item) → Advances result search.old.site search.old.arcs search.old.progress.budget (core items search.old)
         (Runs search.old.site search.old.arcs search.old.progress.budget (core items search.old) (AWork lane ∷ [])) (λ more. core more search.new)
-        (O.taken out.old) (O.taken out.new) (O.faults out.old) (O.faults out.new) }
+        (O.state out.old) (O.state out.new) }
     ensures floored { OnOk result (IsFloored search.old.site search.old.progress.tree.nodes → IsFloored search.old.site search.new.progress.tree.nodes) }
 {
     let step = search.step(alloc, Event::Work(lane))?;
@@ -121,7 +121,7 @@ pub(crate) fn round<
     ensures parts { KeepsParts search.old search.new }
     ensures advances { (items : List Item) → Advances result search.old.site search.old.arcs search.old.progress.budget (core items search.old)
         (Runs search.old.site search.old.arcs search.old.progress.budget (core items search.old) (round_of lanes)) (λ more. core more search.new)
-        (O.taken out.old) (O.taken out.new) (O.faults out.old) (O.faults out.new) }
+        (O.state out.old) (O.state out.new) }
     ensures floored { OnOk result (IsFloored search.old.site search.old.progress.tree.nodes → IsFloored search.old.site search.new.progress.tree.nodes) }
 {
     take_all(alloc, search, lanes)?;
@@ -149,7 +149,7 @@ pub(crate) fn work_all<
     ensures parts { KeepsParts search.old search.new }
     ensures advances { (items : List Item) → Advances result search.old.site search.old.arcs search.old.progress.budget (core items search.old)
         (λ after. (rounds : ℕ) × LeadToEnd search.old.site search.old.arcs search.old.progress.budget lanes rounds (core items search.old) after) (λ more. core more search.new)
-        (O.taken out.old) (O.taken out.new) (O.faults out.old) (O.faults out.new) }
+        (O.state out.old) (O.state out.new) }
     ensures floored { OnOk result (IsFloored search.old.site search.old.progress.tree.nodes → IsFloored search.old.site search.new.progress.tree.nodes) }
 {
     while search.ended().is_none() {

@@ -3,8 +3,6 @@ use Rattle.std.specs.Prelude.{ℕ, ◌<◌, List, [], ◌∷◌, ◌++◌, lengt
 use Rattle.std.specs.List.{concat}
 use Rattle.std.specs.Fmt.{decimal}
 use Rattle.cable_definitions.specs.declared.cable.Cable.{Cable}
-use Rattle.cable_definitions.specs.declared.claim.Claim.{Claim}
-use Rattle.cable_definitions.specs.declared.claim.Claim.TheVariants.{Optimal, Gap, Partial, Infeasible}
 use Rattle.cable_definitions.specs.Site.{Site}
 use Rattle.cable_definitions.specs.Text.{line, cable_line}
 
@@ -12,13 +10,6 @@ use Rattle.cable_definitions.specs.Text.{line, cable_line}
 pub record EndsAtPoints (s : Site) (c : Cable) : Type 0 where
   pub from : c.from < length s.points
   pub to : c.to < length s.points
-
--- a turbine that the claim names is a point of the site
-abbrev pub NamesPoint : Site → Claim → Type 0
-NamesPoint s (Optimal cost) = Unit {0}
-NamesPoint s (Gap cost bound) = Unit {0}
-NamesPoint s (Partial bound stuck) = stuck < length s.points
-NamesPoint s Infeasible = Unit {0}
 
 -- the line with the number of cables, and the lines of the cables
 abbrev pub layout_lines : Site → List Cable → List ℕ

@@ -3,4 +3,4 @@
 
 mod write;
 
-pub use write::{write_budget, write_claim, write_layout, write_row, write_verdict, write_work};
+pub use write::{write_budget, write_claim, write_layout, write_row, write_work};

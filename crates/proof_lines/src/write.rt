@@ -4,24 +4,18 @@ ghost use Rattle.std.specs.Fmt.{decimal};
 ghost use Rattle.cable_definitions.specs.Text.{line, cable_line, claim_line, row_line, weight_line, act_line, why_words, item_lines};
 ghost use Rattle.cable_definitions.specs.Tree.{WorkItem};
 ghost use Rattle.cable_text.specs.Stream.{Writes};
-ghost use Rattle.site_text.specs.Line.{field_text};
-ghost use Rattle.proof_lines.specs.Written.{EndsAtPoints, NamesPoint, layout_lines, spaced_number};
+ghost use Rattle.cable_text.specs.Fields.{field_text};
+ghost use Rattle.site_text.specs.Verdict.{NamesPoint};
+ghost use Rattle.proof_lines.specs.Written.{EndsAtPoints, layout_lines, spaced_number};
 
 use bound_value::Work;
 use cable_definitions::cable::Cable;
 use cable_definitions::claim::Claim;
 use cable_definitions::row::{Act, RowKind, Why};
-use cable_text::{Failed, LineBuffer, Sink, push_number};
+use cable_text::{Failed, Field, LineBuffer, Sink, count_of, push_line, push_number};
 use layout_meaning::Layout;
 use site_model::Site;
-use site_text::{Field, name_of, push_line};
-
-/// A number that isn't negative, as a field of a line.
-fn count_of(value: u64) -> Field<'static>
-    ensures { field_text result ≡ decimal value }
-{
-    Field::Number(i128::from(value))
-}
+use site_text::{name_of, write_verdict};
 
 /// Appends the line `budget N` of a document.
 ///
@@ -30,8 +24,7 @@ fn count_of(value: u64) -> Field<'static>
 /// `Failed` only where the count of `out` rose or stands at its last value. Some first part of the
 /// line was appended then.
 pub fn write_budget<O: Sink>(budget: u32, out: &mut O) -> Result<(), Failed>
-    ensures { Writes result (O.taken out.old) (O.taken out.new) (O.faults out.old)
-        (O.faults out.new) (line (codes "budget" ∷ decimal budget ∷ [])) }
+    ensures { Writes result (O.state out.old) (O.state out.new) (line (codes "budget" ∷ decimal budget ∷ [])) }
 {
     push_line(b"budget", &[count_of(u64::from(budget))], out)
 }
@@ -45,8 +38,7 @@ pub fn write_budget<O: Sink>(budget: u32, out: &mut O) -> Result<(), Failed>
 /// lines was appended then.
 pub fn write_layout<O: Sink>(site: &Site, layout: &Layout, out: &mut O) -> Result<(), Failed>
     requires { All (EndsAtPoints site.now) layout.now }
-    ensures { Writes result (O.taken out.old) (O.taken out.new) (O.faults out.old)
-        (O.faults out.new) (layout_lines site.now layout.now) }
+    ensures { Writes result (O.state out.old) (O.state out.new) (layout_lines site.now layout.now) }
 {
     push_header(layout, out)?;
     push_cables(site, layout.cables(), out)
@@ -54,8 +46,7 @@ pub fn write_layout<O: Sink>(site: &Site, layout: &Layout, out: &mut O) -> Resul
 
 /// Appends the line `layout K` with the number of cables.
 fn push_header<O: Sink>(layout: &Layout, out: &mut O) -> Result<(), Failed>
-    ensures { Writes result (O.taken out.old) (O.taken out.new) (O.faults out.old)
-        (O.faults out.new) (line (codes "layout" ∷ decimal (length layout.now) ∷ [])) }
+    ensures { Writes result (O.state out.old) (O.state out.new) (line (codes "layout" ∷ decimal (length layout.now) ∷ [])) }
 {
     let count = layout.cables().len() as u64;
     push_line(b"layout", &[count_of(count)], out)
@@ -64,8 +55,7 @@ fn push_header<O: Sink>(layout: &Layout, out: &mut O) -> Result<(), Failed>
 /// Appends a line for each cable.
 fn push_cables<O: Sink>(site: &Site, cables: &[Cable], out: &mut O) -> Result<(), Failed>
     requires { All (EndsAtPoints site.now) cables.now }
-    ensures { Writes result (O.taken out.old) (O.taken out.new) (O.faults out.old)
-        (O.faults out.new) (concat (map (cable_line site.now) cables.now)) }
+    ensures { Writes result (O.state out.old) (O.state out.new) (concat (map (cable_line site.now) cables.now)) }
 {
     for cable in cables {
         push_cable(site, *cable, out)?;
@@ -76,8 +66,7 @@ fn push_cables<O: Sink>(site: &Site, cables: &[Cable], out: &mut O) -> Result<()
 /// Appends the line of a cable.
 fn push_cable<O: Sink>(site: &Site, cable: Cable, out: &mut O) -> Result<(), Failed>
     requires { EndsAtPoints site.now cable }
-    ensures { Writes result (O.taken out.old) (O.taken out.new) (O.faults out.old)
-        (O.faults out.new) (cable_line site.now cable) }
+    ensures { Writes result (O.state out.old) (O.state out.new) (cable_line site.now cable) }
 {
     let points = site.points();
     let from = Field::Word(name_of(points, cable.from));
@@ -93,37 +82,10 @@ fn push_cable<O: Sink>(site: &Site, cable: Cable, out: &mut O) -> Result<(), Fai
 /// lines was appended then.
 pub fn write_claim<O: Sink>(site: &Site, claim: Claim, out: &mut O) -> Result<(), Failed>
     requires { NamesPoint site.now claim }
-    ensures { Writes result (O.taken out.old) (O.taken out.new) (O.faults out.old)
-        (O.faults out.new) (claim_line site.now claim ++ line (codes "end" ∷ codes "document" ∷ [])) }
+    ensures { Writes result (O.state out.old) (O.state out.new) (claim_line site.now claim ++ line (codes "end" ∷ codes "document" ∷ [])) }
 {
     write_verdict(site, claim, out)?;
     push_line(b"end", &[Field::Word(b"document")], out)
-}
-
-/// Appends the verdict line of a claim: its cost and its bound in cost units, or the turbine that is stuck.
-///
-/// # Errors
-///
-/// `Failed` only where the count of `out` rose or stands at its last value. Some first part of the
-/// line was appended then.
-pub fn write_verdict<O: Sink>(site: &Site, claim: Claim, out: &mut O) -> Result<(), Failed>
-    requires { NamesPoint site.now claim }
-    ensures { Writes result (O.taken out.old) (O.taken out.new) (O.faults out.old)
-        (O.faults out.new) (claim_line site.now claim) }
-{
-    match claim {
-        Claim::Optimal(cost) => push_line(b"optimal", &[count_of(cost)], out),
-        Claim::Gap { cost, bound } => push_line(b"gap", &[count_of(cost), count_of(bound)], out),
-        Claim::Partial { bound, stuck } => {
-            let name = Field::Word(name_of(site.points(), stuck));
-            push_line(
-                b"open",
-                &[count_of(bound), Field::Word(b"stuck"), name],
-                out,
-            )
-        }
-        Claim::Infeasible => push_line(b"infeasible", &[], out),
-    }
 }
 
 /// Appends the line of a row: its kind and its members.
@@ -133,8 +95,7 @@ pub fn write_verdict<O: Sink>(site: &Site, claim: Claim, out: &mut O) -> Result<
 /// `Failed` only where the count of `out` rose or stands at its last value. Some first part of the
 /// line was appended then.
 pub fn write_row<O: Sink>(kind: RowKind, members: &[u32], out: &mut O) -> Result<(), Failed>
-    ensures { Writes result (O.taken out.old) (O.taken out.new) (O.faults out.old)
-        (O.faults out.new) (row_line (record { kind = kind; members = members.now })) }
+    ensures { Writes result (O.state out.old) (O.state out.new) (row_line (record { kind = kind; members = members.now })) }
 {
     let mut buffer = LineBuffer::new();
     match push_row(kind, members, &mut buffer) {
@@ -146,8 +107,7 @@ pub fn write_row<O: Sink>(kind: RowKind, members: &[u32], out: &mut O) -> Result
 
 /// Appends the line of a row piece by piece.
 fn push_row<O: Sink>(kind: RowKind, members: &[u32], out: &mut O) -> Result<(), Failed>
-    ensures { Writes result (O.taken out.old) (O.taken out.new) (O.faults out.old)
-        (O.faults out.new) (row_line (record { kind = kind; members = members.now })) }
+    ensures { Writes result (O.state out.old) (O.state out.new) (row_line (record { kind = kind; members = members.now })) }
 {
     out.push(b"row ")?;
     out.push(kind.word())?;
@@ -157,8 +117,7 @@ fn push_row<O: Sink>(kind: RowKind, members: &[u32], out: &mut O) -> Result<(), 
 
 /// Appends the members with a space before each.
 fn push_members<O: Sink>(members: &[u32], out: &mut O) -> Result<(), Failed>
-    ensures { Writes result (O.taken out.old) (O.taken out.new) (O.faults out.old)
-        (O.faults out.new) (concat (map spaced_number members.now)) }
+    ensures { Writes result (O.state out.old) (O.state out.new) (concat (map spaced_number members.now)) }
 {
     for member in members {
         push_member(*member, out)?;
@@ -168,8 +127,7 @@ fn push_members<O: Sink>(members: &[u32], out: &mut O) -> Result<(), Failed>
 
 /// Appends a space and a number.
 fn push_member<O: Sink>(member: u32, out: &mut O) -> Result<(), Failed>
-    ensures { Writes result (O.taken out.old) (O.taken out.new) (O.faults out.old)
-        (O.faults out.new) (spaced_number member) }
+    ensures { Writes result (O.state out.old) (O.state out.new) (spaced_number member) }
 {
     out.push(b" ")?;
     push_number(i128::from(member), out)
@@ -183,8 +141,7 @@ fn push_member<O: Sink>(member: u32, out: &mut O) -> Result<(), Failed>
 /// `Failed` only where the count of `out` rose or stands at its last value. Some first part of the
 /// lines was appended then.
 pub fn write_work<O: Sink>(work: &Work, out: &mut O) -> Result<(), Failed>
-    ensures { Writes result (O.taken out.old) (O.taken out.new) (O.faults out.old)
-        (O.faults out.new) (item_lines (WorkItem work.now.node work.now.weights work.now.act)) }
+    ensures { Writes result (O.state out.old) (O.state out.new) (item_lines (WorkItem work.now.node work.now.weights work.now.act)) }
 {
     let weights = work.weights.as_slice();
     push_node(work.node, weights.len() as u64, out)?;
@@ -194,16 +151,14 @@ pub fn write_work<O: Sink>(work: &Work, out: &mut O) -> Result<(), Failed>
 
 /// Appends the line `work NODE COUNT`.
 fn push_node<O: Sink>(node: u32, count: u64, out: &mut O) -> Result<(), Failed>
-    ensures { Writes result (O.taken out.old) (O.taken out.new) (O.faults out.old)
-        (O.faults out.new) (line (codes "work" ∷ decimal node ∷ decimal count ∷ [])) }
+    ensures { Writes result (O.state out.old) (O.state out.new) (line (codes "work" ∷ decimal node ∷ decimal count ∷ [])) }
 {
     push_line(b"work", &[count_of(u64::from(node)), count_of(count)], out)
 }
 
 /// Appends a line for each weight.
 fn push_weights<O: Sink>(weights: &[(u32, i128)], out: &mut O) -> Result<(), Failed>
-    ensures { Writes result (O.taken out.old) (O.taken out.new) (O.faults out.old)
-        (O.faults out.new) (concat (map weight_line weights.now)) }
+    ensures { Writes result (O.state out.old) (O.state out.new) (concat (map weight_line weights.now)) }
 {
     for weight in weights {
         push_weight(*weight, out)?;
@@ -213,8 +168,7 @@ fn push_weights<O: Sink>(weights: &[(u32, i128)], out: &mut O) -> Result<(), Fai
 
 /// Appends the line of a weight.
 fn push_weight<O: Sink>(weight: (u32, i128), out: &mut O) -> Result<(), Failed>
-    ensures { Writes result (O.taken out.old) (O.taken out.new) (O.faults out.old)
-        (O.faults out.new) (weight_line weight) }
+    ensures { Writes result (O.state out.old) (O.state out.new) (weight_line weight) }
 {
     let row = count_of(u64::from(weight.0));
     push_line(b"by", &[row, Field::Number(weight.1)], out)
@@ -222,8 +176,7 @@ fn push_weight<O: Sink>(weight: (u32, i128), out: &mut O) -> Result<(), Failed>
 
 /// Appends the line of an act.
 fn push_act<O: Sink>(act: Act, out: &mut O) -> Result<(), Failed>
-    ensures { Writes result (O.taken out.old) (O.taken out.new) (O.faults out.old)
-        (O.faults out.new) (act_line act) }
+    ensures { Writes result (O.state out.old) (O.state out.new) (act_line act) }
 {
     match act {
         Act::Split(arc) => push_line(b"split", &[count_of(u64::from(arc))], out),
@@ -235,8 +188,7 @@ fn push_act<O: Sink>(act: Act, out: &mut O) -> Result<(), Failed>
 
 /// Appends the line of a reason for which a node is dead.
 fn push_why<O: Sink>(why: Why, out: &mut O) -> Result<(), Failed>
-    ensures { Writes result (O.taken out.old) (O.taken out.new) (O.faults out.old)
-        (O.faults out.new) (line (codes "dead" ∷ why_words why)) }
+    ensures { Writes result (O.state out.old) (O.state out.new) (line (codes "dead" ∷ why_words why)) }
 {
     match why {
         Why::Row(row) => push_reason(b"row", row, out),
@@ -254,8 +206,7 @@ fn push_why<O: Sink>(why: Why, out: &mut O) -> Result<(), Failed>
 
 /// Appends the line of a reason with one number.
 fn push_reason<O: Sink>(word: &[u8], number: u32, out: &mut O) -> Result<(), Failed>
-    ensures { Writes result (O.taken out.old) (O.taken out.new) (O.faults out.old)
-        (O.faults out.new) (line (codes "dead" ∷ word.now ∷ decimal number ∷ [])) }
+    ensures { Writes result (O.state out.old) (O.state out.new) (line (codes "dead" ∷ word.now ∷ decimal number ∷ [])) }
 {
     let field = count_of(u64::from(number));
     push_line(b"dead", &[Field::Word(word), field], out)

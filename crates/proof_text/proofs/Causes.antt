@@ -7,6 +7,7 @@ use Rattle.cable_definitions.specs.declared.claim.Cause.TheVariants.{Line, Form,
 use Rattle.cable_definitions.specs.Site.{Site}
 use Rattle.cable_definitions.specs.Text.{IsWord, words, Piece, Whole, LongLine, CutLine, NoLine}
 use Rattle.cable_definitions.specs.Refusal.{DocLine, line_spelling, IsSpelled, IsWithinLimits, Phase, AtBudget, AtItem, AtWeights, AtCables, AtLast, Past, AtJudged, AtAnyCables, Reader, is_allowed, may_end, IsLineAt, NamesHold, IsBroken, IsFoundByReading, IsLeastCause, IsReadable, cause_number}
+use Rattle.cable_definitions.proofs.Refusals.{none_before_line}
 use Rattle.cable_text.proofs.Splitting.{words_injective}
 use Rattle.line_words.specs.Words.{IsCut}
 use Rattle.line_words.specs.Judged.{IsStanding, IsGoodLine, IsBad}
@@ -42,21 +43,6 @@ text_of NoLine = []
 
 line_moved : (phase : Phase) (text other : List ℕ) (l : DocLine) → Whole text ≡ Whole other → IsLineAt phase text l → IsLineAt phase other l
 line_moved phase text other l e h = let P : List ℕ → Type 0 = λ t. IsLineAt phase t l in subst P (ap text_of e) h
-
--- no cause comes before the first
-none_before_line : (c : Cause) → cause_number c < 1 → ⊥
-none_before_line Line h = absurd (omega (arith, h))
-none_before_line Form h = absurd (omega (arith, h))
-none_before_line SiteCause h = absurd (omega (arith, h))
-none_before_line Row h = absurd (omega (arith, h))
-none_before_line Limit h = absurd (omega (arith, h))
-none_before_line Node h = absurd (omega (arith, h))
-none_before_line Weight h = absurd (omega (arith, h))
-none_before_line Arc h = absurd (omega (arith, h))
-none_before_line Dead h = absurd (omega (arith, h))
-none_before_line Full h = absurd (omega (arith, h))
-none_before_line Layout h = absurd (omega (arith, h))
-none_before_line Verdict h = absurd (omega (arith, h))
 
 -- a line that is broken
 pub first_line : (s : Site) (r : Reader) (piece : Piece) → IsBroken r.phase piece → IsLeastCause (IsFoundByReading s r piece) Line

@@ -13,7 +13,7 @@ use Rattle.cable_text.specs.Stream.{GivesFront}
 use Rattle.proof_text.specs.declared.fault.ItemFault.{ItemFault}
 use Rattle.proof_text.specs.declared.fault.ItemFault.TheVariants.{Refused, Read}
 use Rattle.proof_text.specs.Reading.{line_number_after, ReadsTo, RefusedAfter, IfRefused}
-use Rattle.proof_text.specs.Cables.{HasNumbersOf, IsAhead, ReadsCables, cables_left}
+use Rattle.proof_text.specs.Cables.{HasNumbersOf, IsAhead, AwaitsCable, ReadsCables, cables_left}
 use Rattle.proof_text.proofs.Behind.{reads_then, refused_after}
 use Rattle.proof_text.proofs.ItemLines.{gives_then}
 
@@ -95,14 +95,14 @@ one_read s ordered count done before now after lines later last cables more c be
 
 -- a refusal of a further cable
 pub cable_refused : (A B : Type 0) (fault : ItemFault) (s : Site) (ordered : Bool) (count done : ℕ) (before now : Option (List ℕ)) (lines later : ℕ) (cables : List Cable) → done < count → AreRead s ordered count done before now lines later cables
-    → IfRefused {A = A} (Err fault) (λ x. (r : Reader) (k : ℕ) → r.phase ≡ cables_left ordered (suc k) → r.cables ≡ cables → RefusedAfter s r now later x)
+    → IfRefused {A = A} (Err fault) (λ x. (q : Site) (r : Reader) → AwaitsCable s ordered cables q r → RefusedAfter q r now later x)
     → IfRefused {A = B} (Err fault) (λ x. (r : Reader) → r.phase ≡ cables_left ordered count → r.cables ≡ [] → RefusedAfter s r before lines x)
 cable_refused A B (Refused x) s ordered count done before now lines later cables below h k = λ r e f.
     let left : count - done ≡ suc (count - (done + 1)) = omega (arith, below) in
     let mid : Reader = record r { phase = cables_left ordered (count - done); cables = cables } in
     refused_after s r (record r { phase = cables_left ordered (count - done); cables = cables }) before now h.reads.read_lines lines later x (h.reads.reads r e f)
     (next_is done lines later (length h.reads.read_lines) (h.reads.lines_count ∙ h.size) h.lines_some h.lines_none)
-    (k (record r { phase = cables_left ordered (count - done); cables = cables }) (count - (done + 1)) (ap (cables_left ordered) left) refl)
+    (k s (record r { phase = cables_left ordered (count - done); cables = cables }) (refl, count - (done + 1), ap (cables_left ordered) left, refl))
   where
     next_is : (d i j n : ℕ) → n ≡ d → (1 ≤ d → j ≡ line_number_after i d) → (d ≡ 0 → j ≡ i) → line_number_after j 1 ≡ line_number_after i (1 + n)
     next_is zero i j n e some none = let f = none refl in omega (arith, e, f)

@@ -3,11 +3,12 @@ use Rattle.std.proofs.Common.{◌≡◌, ℕ, List, [], ◌∷◌, ◌++◌, Opt
 use Rattle.std.specs.Prelude.{IsTrue, IfNone}
 use Rattle.cable_definitions.specs.declared.cable.Arc.{Arc as CandidateArc}
 use Rattle.cable_definitions.specs.declared.claim.Cause.{Cause}
+use Rattle.cable_definitions.specs.declared.claim.Refusal.{Refusal}
 use Rattle.cable_definitions.specs.declared.claim.Cause.TheVariants.{Line as LineCause, Form}
 use Rattle.cable_definitions.specs.Site.{Site}
 use Rattle.cable_definitions.specs.Text.{words, line, Piece, Whole, LongLine, CutLine, NoLine}
 use Rattle.cable_definitions.specs.Refusal.{DocLine, line_spelling, Phase, Reader, IsReadable, IsFoundByReading, IsFoundByFeeding, IsLeastCause, GoesOn, NamesHold, may_end}
-use Rattle.cable_text.specs.Stream.{GivesFront, IsAtEnd}
+use Rattle.cable_text.specs.Stream.{StreamState, FaultsRose, FaultsOnlyRise, GivesFront, IsAtEnd}
 use Rattle.cable_text.specs.declared.fault.Line.{Line}
 use Rattle.cable_text.specs.declared.fault.Line.TheVariants.{Text, End}
 use Rattle.cable_text.specs.declared.fault.LineFault.{LineFault}
@@ -15,7 +16,8 @@ use Rattle.cable_text.specs.declared.fault.LineFault.TheVariants.{TooLong, NoNew
 use Rattle.cable_text.specs.Lines.{ahead, StandsNext, LinesState, ReadsLine, ReadsPiece}
 use Rattle.line_words.specs.Words.{IsCut}
 use Rattle.line_words.specs.Judged.{IsStanding, IsGoodLine, IsBad}
-use Rattle.proof_text.specs.Reading.{line_number_after, ReadsTo, ReadsDocLine, RefusedAfter}
+use Rattle.proof_text.specs.declared.fault.ItemFault.TheVariants.{Refused}
+use Rattle.proof_text.specs.Reading.{line_number_after, ReadsTo, ReadsDocLine, RefusedAfter, ReadsOneLine}
 use Rattle.line_words.proofs.Decoding.{some_words}
 use Rattle.proof_text.proofs.Causes.{first_line, first_missing, first_form, no_line_past, good_readable, bad_refused}
 
@@ -42,30 +44,35 @@ line_text phase text ws l cut h =
     let of = cut.of_words (λ e. some_words l (sym h.words_are ∙ e)) in
     ap (λ t. t ++ 10 ∷ []) (sym (of.text_is ∙ ap words h.words_are))
 
+-- a call that reads one line, and refuses it
+pub refused_line : {A : Type 0} {StandsSo : Site → Reader → Type 0} {old new : LinesState} {a b : StreamState} {refusal : Refusal} → FaultsOnlyRise a b → ((s : Site) (r : Reader) → StandsSo s r → RefusedAfter s r (ahead old a) old.lines refusal)
+    → ReadsOneLine {A = A} (Err (Refused refusal)) StandsSo old new a b
+refused_line count h = record { kept = tt; number = tt; lines = tt; refused = h; read = tt; count = count }
+
 -- where no fault was kept
 pub none_kept : {P : Type 0} (kept : Option LineFault) → kept ≡ None → IfNone kept P → P
 none_kept None e p = p
 none_kept (Some fault) e p = absurd (cc)
 
 -- what a call for the next line that has this answer finds
-module _ {old new : LinesState} {a b : Option (List ℕ)} {i j : ℕ} {result : Result Line LineFault} (h : ReadsLine old new a b i j result) where
-  piece_at : (other : Result Line LineFault) → result ≡ other → ReadsPiece (ahead old.pending a) (ahead new.pending b) new.text i j other
-  piece_at other e = let P : Result Line LineFault → Type 0 = λ r. ReadsPiece (ahead old.pending a) (ahead new.pending b) new.text i j r in subst P e h.piece
+module _ {old new : LinesState} {a b : StreamState} {result : Result Line LineFault} (h : ReadsLine old new a b result) where
+  piece_at : (other : Result Line LineFault) → result ≡ other → ReadsPiece (ahead old a) (ahead new b) new.text (FaultsRose a b) other
+  piece_at other e = let P : Result Line LineFault → Type 0 = λ r. ReadsPiece (ahead old a) (ahead new b) new.text (FaultsRose a b) r in subst P e h.piece
 
   -- the refusals of lines that are missing, too long or unended, and of one where the input may end
-  pub refused_end : result ≡ Ok End → (s : Site) (r : Reader) → may_end r.phase ≡ false → RefusedAfter s r (ahead old.pending a) old.lines (record { line = new.number; cause = LineCause })
-  refused_end e s r m = refused_next s r (ahead old.pending a) (ahead new.pending b) NoLine old.lines new.number LineCause h.number (piece_at (Ok End) e) (first_missing s r m)
+  pub refused_end : result ≡ Ok End → (s : Site) (r : Reader) → may_end r.phase ≡ false → RefusedAfter s r (ahead old a) old.lines (record { line = new.number; cause = LineCause })
+  refused_end e s r m = refused_next s r (ahead old a) (ahead new b) NoLine old.lines new.number LineCause h.number (piece_at (Ok End) e) (first_missing s r m)
 
-  pub refused_long : result ≡ Err TooLong → (s : Site) (r : Reader) → RefusedAfter s r (ahead old.pending a) old.lines (record { line = new.number; cause = LineCause })
-  refused_long e s r = refused_next s r (ahead old.pending a) (ahead new.pending b) LongLine old.lines new.number LineCause h.number (piece_at (Err TooLong) e) (first_line s r LongLine tt)
+  pub refused_long : result ≡ Err TooLong → (s : Site) (r : Reader) → RefusedAfter s r (ahead old a) old.lines (record { line = new.number; cause = LineCause })
+  refused_long e s r = refused_next s r (ahead old a) (ahead new b) LongLine old.lines new.number LineCause h.number (piece_at (Err TooLong) e) (first_line s r LongLine tt)
 
-  pub refused_cut : result ≡ Err NoNewline → (s : Site) (r : Reader) → RefusedAfter s r (ahead old.pending a) old.lines (record { line = new.number; cause = LineCause })
-  refused_cut e s r = refused_next s r (ahead old.pending a) (ahead new.pending b) CutLine old.lines new.number LineCause h.number (piece_at (Err NoNewline) e) (first_line s r CutLine tt)
+  pub refused_cut : result ≡ Err NoNewline → (s : Site) (r : Reader) → RefusedAfter s r (ahead old a) old.lines (record { line = new.number; cause = LineCause })
+  refused_cut e s r = refused_next s r (ahead old a) (ahead new b) CutLine old.lines new.number LineCause h.number (piece_at (Err NoNewline) e) (first_line s r CutLine tt)
 
-  pub refused_text : result ≡ Ok Text → (s : Site) (r : Reader) → IsTrue (may_end r.phase) → RefusedAfter s r (ahead old.pending a) old.lines (record { line = new.number; cause = Form })
+  pub refused_text : result ≡ Ok Text → (s : Site) (r : Reader) → IsTrue (may_end r.phase) → RefusedAfter s r (ahead old a) old.lines (record { line = new.number; cause = Form })
   refused_text e s r m =
       let p = piece_at (Ok Text) e in
-      refused_next s r (ahead old.pending a) (ahead new.pending b) (Whole new.text) old.lines new.number Form h.number p.0 (first_form s r new.text (λ l at. no_line_past r.phase l m at.allowed))
+      refused_next s r (ahead old a) (ahead new b) (Whole new.text) old.lines new.number Form h.number p.0 (first_form s r new.text (λ l at. no_line_past r.phase l m at.allowed))
 
 -- ---- a line that was found, and whose words were cut
 -- it is read

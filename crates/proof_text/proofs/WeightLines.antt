@@ -22,7 +22,7 @@ use Rattle.proof_text.specs.declared.fault.ItemFault.TheVariants.{Refused, Read}
 use Rattle.line_words.specs.declared.judging.ItemLine.TheVariants.{Work}
 use Rattle.line_words.specs.Words.{IsCut}
 use Rattle.line_words.specs.Judged.{IsGoodLine}
-use Rattle.proof_text.specs.Reading.{line_number_after, ReadsTo, RefusedAfter, IfRefused}
+use Rattle.proof_text.specs.Reading.{line_number_after, ReadsTo, RefusedAfter, IfRefused, AwaitsWeight, AwaitsAct}
 use Rattle.proof_text.specs.Items.{weight_lines, ReadsWork, ReadsItemLine, ReadsWeight, ReadsWeights, ReadsRest}
 use Rattle.proof_text.proofs.Streams.{goes_one, line_given}
 use Rattle.proof_text.proofs.Behind.{reads_then, refused_after, refused_behind}
@@ -88,25 +88,25 @@ one_weight_more before middle after weights weight h k =
 
 -- a refusal behind some of so many weights
 pub weight_refused : (before middle : Option (List ℕ)) (weights : List (ℕ × ℤ)) (total lines later : ℕ) (fault : ItemFault) → ReadsWeights before middle weights → length weights < total → line_number_after later 1 ≡ line_number_after lines (length weights + 1)
-    → IfRefused {A = ℕ × ℤ} (Err fault) (λ x. (s : Site) (r : Reader) (v k : ℕ) (ws : List (ℕ × ℤ)) → r.phase ≡ AtWeights v (suc k) ws → RefusedAfter s r middle later x)
+    → IfRefused {A = ℕ × ℤ} (Err fault) (λ x. (s : Site) (r : Reader) → AwaitsWeight s r → RefusedAfter s r middle later x)
     → IfRefused {A = Unit {0}} (Err fault) (λ x. (s : Site) (r : Reader) (v : ℕ) → r.phase ≡ AtWeights v total [] → RefusedAfter s r before lines x)
 weight_refused before middle weights total lines later (Refused x) h few n k = λ s r v e.
     let left : ℕ = total - (length weights + 1) in
     let all : total ≡ length weights + suc left = omega (arith, few) in
     let now : Reader = record r { phase = AtWeights v (suc left) weights } in
-    refused_after s r now before middle (weight_lines weights) lines later x (h.reads s r v (suc left) (e ∙ ap (λ m. AtWeights v m []) all)) (omega (arith, n, length-map weights (λ (row, w). WeightLine (pos row) w))) (k s now v left weights refl)
+    refused_after s r now before middle (weight_lines weights) lines later x (h.reads s r v (suc left) (e ∙ ap (λ m. AtWeights v m []) all)) (omega (arith, n, length-map weights (λ (row, w). WeightLine (pos row) w))) (k s now (v, left, weights, refl))
 weight_refused before middle weights total lines later Read h few n k = tt
 
 -- ---- the lines of a work behind its first
 -- a refusal of the line of the act
 pub act_refused : (before middle : Option (List ℕ)) (weights : List (ℕ × ℤ)) (count lines later : ℕ) (result : Result Act ItemFault) → ReadsWeights before middle weights → length weights ≡ count → line_number_after later 1 ≡ line_number_after lines (count + 1)
-    → IfRefused result (λ x. (s : Site) (r : Reader) (v : ℕ) (ws : List (ℕ × ℤ)) → r.phase ≡ AtWeights v 0 ws → RefusedAfter s r middle later x)
+    → IfRefused result (λ x. (s : Site) (r : Reader) → AwaitsAct s r → RefusedAfter s r middle later x)
     → IfRefused result (λ x. (s : Site) (r : Reader) (v : ℕ) → r.phase ≡ AtWeights v count [] → RefusedAfter s r before lines x)
 act_refused before middle weights count lines later (Ok act) h size n k = tt
 act_refused before middle weights count lines later (Err (Refused x)) h size n k = λ s r v e.
     let all : count ≡ length weights + 0 = omega (arith, size) in
     let now : Reader = record r { phase = AtWeights v 0 weights } in
-    refused_after s r now before middle (weight_lines weights) lines later x (h.reads s r v 0 (e ∙ ap (λ m. AtWeights v m []) all)) (omega (arith, n, size, length-map weights (λ (row, w). WeightLine (pos row) w))) (k s now v weights refl)
+    refused_after s r now before middle (weight_lines weights) lines later x (h.reads s r v 0 (e ∙ ap (λ m. AtWeights v m []) all)) (omega (arith, n, size, length-map weights (λ (row, w). WeightLine (pos row) w))) (k s now (v, weights, refl))
 act_refused before middle weights count lines later (Err Read) h size n k = tt
 
 -- ---- all lines of a work

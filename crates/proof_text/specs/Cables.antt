@@ -1,5 +1,5 @@
 -- Cable lines, and the cables that they name.
-use Rattle.std.specs.Prelude.{◌≡◌, ◌≢◌, ℕ, ◌<◌, ℤ, pos, List, [], ◌∷◌, length, codes, Bool, true, false, All, Option}
+use Rattle.std.specs.Prelude.{◌≡◌, ◌≢◌, ℕ, suc, ◌<◌, ℤ, pos, List, [], ◌∷◌, length, codes, Bool, true, false, All, Option}
 use Rattle.cable_definitions.specs.declared.cable.Cable.{Cable}
 use Rattle.cable_definitions.specs.declared.claim.Cause.{Cause}
 use Rattle.cable_definitions.specs.declared.claim.Cause.TheVariants.{Form, Layout}
@@ -31,6 +31,10 @@ IsAhead false cables c = Unit {0}
 abbrev pub cables_left : Bool → ℕ → Phase
 cables_left true k = AtCables k
 cables_left false k = AtAnyCables k
+
+-- a cable line of this site is to come behind these cables
+abbrev pub AwaitsCable : Site → Bool → List Cable → Site → Reader → Type 0
+AwaitsCable site ordered cables s r = (s ≡ site) × (k : ℕ) × (r.phase ≡ cables_left ordered (suc k)) × (r.cables ≡ cables)
 
 -- the words of a cable line
 abbrev pub cable_line_words : List ℕ → List ℕ → ℤ → List (List ℕ)

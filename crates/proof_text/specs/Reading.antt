@@ -1,11 +1,12 @@
 -- What a call that reads lines of a document does.
-use Rattle.std.specs.Prelude.{◌≡◌, ℕ, ◌+◌, ◌-◌, ◌^◌, min, List, length, Option, Some, None, Result, Ok, Err}
+use Rattle.std.specs.Prelude.{◌≡◌, ℕ, suc, ◌+◌, ◌-◌, ◌^◌, ℤ, min, false, List, length, Option, Some, None, Result, Ok, Err, OnOk}
 use Rattle.cable_definitions.specs.declared.cable.Arc.{Arc as CandidateArc}
 use Rattle.cable_definitions.specs.Site.{Site}
 use Rattle.cable_definitions.specs.Text.{Piece, Whole, IsNext}
-use Rattle.cable_definitions.specs.Refusal.{DocLine, Reader, ReadsLines, IsReadable, IsFoundByReading, IsLeastCause}
+use Rattle.cable_definitions.specs.Refusal.{DocLine, Phase, AtWeights, Reader, ReadsLines, IsReadable, IsFoundByReading, IsLeastCause, may_end}
 use Rattle.cable_definitions.specs.declared.claim.Refusal.{Refusal}
-use Rattle.cable_text.specs.Lines.{StandsNext}
+use Rattle.cable_text.specs.Stream.{StreamState, FaultsRose, FaultsOnlyRise}
+use Rattle.cable_text.specs.Lines.{LinesState, ahead, StandsNext}
 use Rattle.proof_text.specs.declared.fault.ItemFault.{ItemFault}
 use Rattle.proof_text.specs.declared.fault.ItemFault.TheVariants.{Refused, Read}
 
@@ -51,3 +52,33 @@ abbrev pub IfRead : {A : Type 0} → Result A ItemFault → Type 0 → Type 0
 IfRead (Ok a) P = Unit {0}
 IfRead (Err (Refused refusal)) P = Unit {0}
 IfRead (Err Read) P = P
+
+-- the input may not end where the reader stands
+abbrev pub IsBeforeLine : Site → Reader → Type 0
+IsBeforeLine s r = may_end r.phase ≡ false
+
+-- the reader stands at this phase, whatever the site is
+abbrev pub IsAt : Phase → Site → Reader → Type 0
+IsAt phase s r = r.phase ≡ phase
+
+-- the same where the site is this one
+abbrev pub IsAtOf : Site → Phase → Site → Reader → Type 0
+IsAtOf site phase s r = (s ≡ site) × (r.phase ≡ phase)
+
+-- the reader awaits the line of a weight
+abbrev pub AwaitsWeight : Site → Reader → Type 0
+AwaitsWeight s r = (v k : ℕ) × (weights : List (ℕ × ℤ)) × (r.phase ≡ AtWeights v (suc k) weights)
+
+-- the reader awaits the line of an act
+abbrev pub AwaitsAct : Site → Reader → Type 0
+AwaitsAct s r = (v : ℕ) × (weights : List (ℕ × ℤ)) × (r.phase ≡ AtWeights v 0 weights)
+
+-- What a call does that reads one line of a document where the reader stands so: the line was read and is the last, or its refusal is the first, or the
+-- source failed.
+pub record ReadsOneLine {A : Type 0} (result : Result A ItemFault) (StandsSo : Site → Reader → Type 0) (old new : LinesState) (source_old source_new : StreamState) : Type 0 where
+  pub kept : OnOk result (new.kept ≡ None)
+  pub number : OnOk result (new.number ≡ new.lines)
+  pub lines : OnOk result (new.lines ≡ line_number_after old.lines 1)
+  pub refused : IfRefused result (λ refusal. (s : Site) (r : Reader) → StandsSo s r → RefusedAfter s r (ahead old source_old) old.lines refusal)
+  pub read : IfRead result (FaultsRose source_old source_new)
+  pub count : FaultsOnlyRise source_old source_new

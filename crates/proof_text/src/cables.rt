@@ -6,13 +6,13 @@ ghost use Rattle.cable_definitions.specs.declared.cable.Cable.{Cable as AnyCable
 ghost use Rattle.cable_definitions.specs.Text.{cable_line};
 ghost use Rattle.cable_definitions.specs.Site.{IsValid};
 ghost use Rattle.cable_definitions.specs.Refusal.{Reader, DocLine};
-ghost use Rattle.cable_text.specs.Stream.{Rose, GivesFront};
+ghost use Rattle.cable_text.specs.Stream.{FaultsRose, FaultsOnlyRise, GivesFront};
 ghost use Rattle.cable_text.specs.Lines.{ahead};
 ghost use Rattle.line_words.specs.Words.{held};
 ghost use Rattle.line_words.specs.Numbers.{Is};
 ghost use Rattle.line_words.specs.declared.number.Number.TheVariants.{Small};
-ghost use Rattle.proof_text.specs.Cables.{HasNumbersOf, IsCableNamed, IsAhead, IsCableLine, IsNoCable, ReadsCables, cables_left};
-ghost use Rattle.proof_text.specs.Reading.{line_number_after, ReadsTo, RefusedAfter, IfRefused, IfRead};
+ghost use Rattle.proof_text.specs.Cables.{HasNumbersOf, IsCableNamed, IsAhead, AwaitsCable, IsCableLine, IsNoCable, ReadsCables, cables_left};
+ghost use Rattle.proof_text.specs.Reading.{line_number_after, ReadsTo, RefusedAfter, IfRefused, IfRead, ReadsOneLine};
 
 use crate::fault::ItemFault;
 use crate::named::point_named;
@@ -108,21 +108,14 @@ fn read_cable<S: Source>(
     ordered: bool,
 ) -> Result<Cable, ItemFault>
     requires { lines.old.kept ≡ None }
+    ensures line { ReadsOneLine result (AwaitsCable site.now ordered cables.now) lines.old lines.new (S.state src.old) (S.state src.new) }
     ensures reads { IfOk result (λ c. (l : DocLine) × ((r : Reader) (k : ℕ) → r.phase ≡ cables_left ordered (suc k) → r.cables ≡ cables.now
-        → ReadsTo site.now r (ahead lines.old.pending (S.left src.old)) (ahead lines.new.pending (S.left src.new)) (l ∷ []) (record r { phase = cables_left ordered k; cables = cables.now ++ c ∷ [] }))) }
-    ensures text { IfOk result (λ c. GivesFront (ahead lines.old.pending (S.left src.old)) (ahead lines.new.pending (S.left src.new)) (cable_line site.now c)) }
+        → ReadsTo site.now r (ahead lines.old (S.state src.old)) (ahead lines.new (S.state src.new)) (l ∷ []) (record r { phase = cables_left ordered k; cables = cables.now ++ c ∷ [] }))) }
+    ensures text { IfOk result (λ c. GivesFront (ahead lines.old (S.state src.old)) (ahead lines.new (S.state src.new)) (cable_line site.now c)) }
     ensures listed { IfOk result (λ c. HasNumbersOf site.now c) }
     ensures in_order { IfOk result (λ c. IsAhead ordered cables.now c) }
-    ensures kept { OnOk result (lines.new.kept ≡ None) }
-    ensures lines { OnOk result (lines.new.lines ≡ line_number_after lines.old.lines 1) }
-    ensures refused { IfRefused result (λ refusal. (r : Reader) (k : ℕ) → r.phase ≡ cables_left ordered (suc k) → r.cables ≡ cables.now
-        → RefusedAfter site.now r (ahead lines.old.pending (S.left src.old)) lines.old.lines refusal) }
-    ensures read { IfRead result (Rose (S.faults src.old) (S.faults src.new)) }
-    ensures count { S.faults src.old ≤ S.faults src.new }
 {
-    if let Err(fault) = next_line(lines, src) {
-        return Err(fault);
-    }
+    next_line(lines, src)?;
     match cable_in(site, cables, ordered, words_of(lines.text())) {
         Ok(cable) => Ok(cable),
         Err(cause) => Err(refused(lines, cause)),
@@ -148,8 +141,8 @@ pub fn read_layout<S: Source>(
     requires kept { lines.old.kept ≡ None }
     requires empty { into.old ≡ [] }
     requires most { count ≤ 256 }
-    ensures reads { OnOk result (ReadsCables site.now ordered count 0 (ahead lines.old.pending (S.left src.old)) (ahead lines.new.pending (S.left src.new)) into.new) }
-    ensures text { OnOk result (GivesFront (ahead lines.old.pending (S.left src.old)) (ahead lines.new.pending (S.left src.new)) (concat (map (cable_line site.now) into.new))) }
+    ensures reads { OnOk result (ReadsCables site.now ordered count 0 (ahead lines.old (S.state src.old)) (ahead lines.new (S.state src.new)) into.new) }
+    ensures text { OnOk result (GivesFront (ahead lines.old (S.state src.old)) (ahead lines.new (S.state src.new)) (concat (map (cable_line site.now) into.new))) }
     ensures size { OnOk result (length into.new ≡ count) }
     ensures listed { OnOk result (All (HasNumbersOf site.now) into.new) }
     ensures in_order { OnOk result (IsTrue ordered → AllPairs (λ c d. c.from < d.from) into.new) }
@@ -157,9 +150,9 @@ pub fn read_layout<S: Source>(
     ensures lines { OnOk result (1 ≤ count → lines.new.lines ≡ line_number_after lines.old.lines count) }
     ensures no_lines { OnOk result (count ≡ 0 → lines.new.lines ≡ lines.old.lines) }
     ensures refused { IfRefused result (λ refusal. (r : Reader) → r.phase ≡ cables_left ordered count → r.cables ≡ []
-        → RefusedAfter site.now r (ahead lines.old.pending (S.left src.old)) lines.old.lines refusal) }
-    ensures read { IfRead result (Rose (S.faults src.old) (S.faults src.new)) }
-    ensures count { S.faults src.old ≤ S.faults src.new }
+        → RefusedAfter site.now r (ahead lines.old (S.state src.old)) lines.old.lines refusal) }
+    ensures read { IfRead result (FaultsRose (S.state src.old) (S.state src.new)) }
+    ensures count { FaultsOnlyRise (S.state src.old) (S.state src.new) }
 {
     'cables: for _done in 0..count {
         let cable = read_cable(lines, src, site, into.cables(), ordered);

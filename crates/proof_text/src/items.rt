@@ -6,10 +6,10 @@ ghost use Rattle.cable_definitions.specs.Site.{Site as SiteValue};
 ghost use Rattle.cable_definitions.specs.Command.{IsBudget};
 ghost use Rattle.cable_definitions.specs.Text.{line};
 ghost use Rattle.cable_definitions.specs.Refusal.{Reader, BudgetLine, AtBudget, AtItem, AtWeights, RawAct, ActLine, act_from};
-ghost use Rattle.cable_text.specs.Stream.{Rose, GivesFront};
+ghost use Rattle.cable_text.specs.Stream.{FaultsRose, FaultsOnlyRise, GivesFront};
 ghost use Rattle.cable_text.specs.Lines.{ahead};
 ghost use Rattle.proof_text.specs.Items.{ReadsItemLine, ReadsWeight, ReadsWeights, ReadsAct, ReadsRest, ReadsNext, kept_after};
-ghost use Rattle.proof_text.specs.Reading.{line_number_after, ReadsTo, ReadsDocLine, RefusedAfter, IfRefused, IfRead};
+ghost use Rattle.proof_text.specs.Reading.{line_number_after, ReadsTo, ReadsDocLine, RefusedAfter, IfRefused, IfRead, IsAt, AwaitsWeight, AwaitsAct, ReadsOneLine};
 
 use crate::fault::ItemFault;
 use crate::reading::{next_line, refused};
@@ -31,20 +31,13 @@ pub enum Next {
 /// Reads the line `budget N`.
 fn read_budget<S: Source>(lines: &mut Lines, src: &mut S) -> Result<u32, ItemFault>
     requires { lines.old.kept ≡ None }
+    ensures line { ReadsOneLine result (IsAt AtBudget) lines.old lines.new (S.state src.old) (S.state src.new) }
     ensures reads { IfOk result (λ n. (s : SiteValue) (r : Reader) → r.phase ≡ AtBudget
-        → ReadsTo s r (ahead lines.old.pending (S.left src.old)) (ahead lines.new.pending (S.left src.new)) (BudgetLine (pos n) ∷ []) (record r { phase = AtItem; budget = n })) }
-    ensures text { IfOk result (λ n. GivesFront (ahead lines.old.pending (S.left src.old)) (ahead lines.new.pending (S.left src.new)) (line (codes "budget" ∷ decimal n ∷ []))) }
+        → ReadsTo s r (ahead lines.old (S.state src.old)) (ahead lines.new (S.state src.new)) (BudgetLine (pos n) ∷ []) (record r { phase = AtItem; budget = n })) }
+    ensures text { IfOk result (λ n. GivesFront (ahead lines.old (S.state src.old)) (ahead lines.new (S.state src.new)) (line (codes "budget" ∷ decimal n ∷ []))) }
     ensures range { IfOk result (λ n. IsBudget n) }
-    ensures kept { OnOk result (lines.new.kept ≡ None) }
-    ensures lines { OnOk result (lines.new.lines ≡ line_number_after lines.old.lines 1) }
-    ensures refused { IfRefused result (λ refusal. (s : SiteValue) (r : Reader) → r.phase ≡ AtBudget
-        → RefusedAfter s r (ahead lines.old.pending (S.left src.old)) lines.old.lines refusal) }
-    ensures read { IfRead result (Rose (S.faults src.old) (S.faults src.new)) }
-    ensures count { S.faults src.old ≤ S.faults src.new }
 {
-    if let Err(fault) = next_line(lines, src) {
-        return Err(fault);
-    }
+    next_line(lines, src)?;
     match budget_in(words_of(lines.text())) {
         Ok(budget) => Ok(budget),
         Err(cause) => Err(refused(lines, cause)),
@@ -59,18 +52,10 @@ fn read_item<S: Source>(
     members: &mut MemberList,
 ) -> Result<ItemLine, ItemFault>
     requires { lines.old.kept ≡ None }
-    ensures reads { IfOk result (λ item. ReadsItemLine (ahead lines.old.pending (S.left src.old)) (ahead lines.new.pending (S.left src.new)) item members.new) }
-    ensures kept { OnOk result (lines.new.kept ≡ None) }
-    ensures number { OnOk result (lines.new.number ≡ lines.new.lines) }
-    ensures lines { OnOk result (lines.new.lines ≡ line_number_after lines.old.lines 1) }
-    ensures refused { IfRefused result (λ refusal. (s : SiteValue) (r : Reader) → r.phase ≡ AtItem
-        → RefusedAfter s r (ahead lines.old.pending (S.left src.old)) lines.old.lines refusal) }
-    ensures read { IfRead result (Rose (S.faults src.old) (S.faults src.new)) }
-    ensures count { S.faults src.old ≤ S.faults src.new }
+    ensures line { ReadsOneLine result (IsAt AtItem) lines.old lines.new (S.state src.old) (S.state src.new) }
+    ensures reads { IfOk result (λ item. ReadsItemLine (ahead lines.old (S.state src.old)) (ahead lines.new (S.state src.new)) item members.new) }
 {
-    if let Err(fault) = next_line(lines, src) {
-        return Err(fault);
-    }
+    next_line(lines, src)?;
     match item_in(words_of(lines.text()), members) {
         Ok(item) => Ok(item),
         Err(cause) => Err(refused(lines, cause)),
@@ -80,17 +65,10 @@ fn read_item<S: Source>(
 /// Reads the line of a weight, where one is to come.
 fn read_weight<S: Source>(lines: &mut Lines, src: &mut S) -> Result<(u32, i128), ItemFault>
     requires { lines.old.kept ≡ None }
-    ensures reads { IfOk result (λ weight. ReadsWeight (ahead lines.old.pending (S.left src.old)) (ahead lines.new.pending (S.left src.new)) weight) }
-    ensures kept { OnOk result (lines.new.kept ≡ None) }
-    ensures lines { OnOk result (lines.new.lines ≡ line_number_after lines.old.lines 1) }
-    ensures refused { IfRefused result (λ refusal. (s : SiteValue) (r : Reader) (v k : ℕ) (weights : List (ℕ × ℤ)) → r.phase ≡ AtWeights v (suc k) weights
-        → RefusedAfter s r (ahead lines.old.pending (S.left src.old)) lines.old.lines refusal) }
-    ensures read { IfRead result (Rose (S.faults src.old) (S.faults src.new)) }
-    ensures count { S.faults src.old ≤ S.faults src.new }
+    ensures line { ReadsOneLine result AwaitsWeight lines.old lines.new (S.state src.old) (S.state src.new) }
+    ensures reads { IfOk result (λ weight. ReadsWeight (ahead lines.old (S.state src.old)) (ahead lines.new (S.state src.new)) weight) }
 {
-    if let Err(fault) = next_line(lines, src) {
-        return Err(fault);
-    }
+    next_line(lines, src)?;
     match weight_in(words_of(lines.text())) {
         Ok(weight) => Ok(weight),
         Err(cause) => Err(refused(lines, cause)),
@@ -106,14 +84,14 @@ fn read_weights<S: Source>(
 ) -> Result<(), ItemFault>
     requires kept { lines.old.kept ≡ None }
     requires room { count ≤ 1024 }
-    ensures reads { OnOk result (ReadsWeights (ahead lines.old.pending (S.left src.old)) (ahead lines.new.pending (S.left src.new)) weights.new) }
+    ensures reads { OnOk result (ReadsWeights (ahead lines.old (S.state src.old)) (ahead lines.new (S.state src.new)) weights.new) }
     ensures length { OnOk result (length weights.new ≡ count) }
     ensures kept { OnOk result (lines.new.kept ≡ None) }
     ensures lines { OnOk result (line_number_after lines.new.lines 1 ≡ line_number_after lines.old.lines (count + 1)) }
     ensures refused { IfRefused result (λ refusal. (s : SiteValue) (r : Reader) (v : ℕ) → r.phase ≡ AtWeights v count []
-        → RefusedAfter s r (ahead lines.old.pending (S.left src.old)) lines.old.lines refusal) }
-    ensures read { IfRead result (Rose (S.faults src.old) (S.faults src.new)) }
-    ensures count { S.faults src.old ≤ S.faults src.new }
+        → RefusedAfter s r (ahead lines.old (S.state src.old)) lines.old.lines refusal) }
+    ensures read { IfRead result (FaultsRose (S.state src.old) (S.state src.new)) }
+    ensures count { FaultsOnlyRise (S.state src.old) (S.state src.new) }
 {
     weights.clear();
     for _ in 0..count {
@@ -139,18 +117,10 @@ fn add_weight(weights: &mut Weights, row: u32, weight: i128)
 /// Reads the line of an act.
 fn read_act<S: Source>(lines: &mut Lines, src: &mut S) -> Result<Act, ItemFault>
     requires { lines.old.kept ≡ None }
-    ensures reads { IfOk result (λ act. ReadsAct (ahead lines.old.pending (S.left src.old)) (ahead lines.new.pending (S.left src.new)) act) }
-    ensures kept { OnOk result (lines.new.kept ≡ None) }
-    ensures number { OnOk result (lines.new.number ≡ lines.new.lines) }
-    ensures lines { OnOk result (lines.new.lines ≡ line_number_after lines.old.lines 1) }
-    ensures refused { IfRefused result (λ refusal. (s : SiteValue) (r : Reader) (v : ℕ) (weights : List (ℕ × ℤ)) → r.phase ≡ AtWeights v 0 weights
-        → RefusedAfter s r (ahead lines.old.pending (S.left src.old)) lines.old.lines refusal) }
-    ensures read { IfRead result (Rose (S.faults src.old) (S.faults src.new)) }
-    ensures count { S.faults src.old ≤ S.faults src.new }
+    ensures line { ReadsOneLine result AwaitsAct lines.old lines.new (S.state src.old) (S.state src.new) }
+    ensures reads { IfOk result (λ act. ReadsAct (ahead lines.old (S.state src.old)) (ahead lines.new (S.state src.new)) act) }
 {
-    if let Err(fault) = next_line(lines, src) {
-        return Err(fault);
-    }
+    next_line(lines, src)?;
     match act_in(words_of(lines.text())) {
         Ok(act) => Ok(act),
         Err(cause) => Err(refused(lines, cause)),
@@ -166,19 +136,17 @@ fn read_work<S: Source>(
 ) -> Result<Act, ItemFault>
     requires kept { lines.old.kept ≡ None }
     requires room { count ≤ 1024 }
-    ensures reads { IfOk result (λ act. ReadsRest (ahead lines.old.pending (S.left src.old)) (ahead lines.new.pending (S.left src.new)) weights.new act) }
+    ensures reads { IfOk result (λ act. ReadsRest (ahead lines.old (S.state src.old)) (ahead lines.new (S.state src.new)) weights.new act) }
     ensures length { OnOk result (length weights.new ≡ count) }
     ensures kept { OnOk result (lines.new.kept ≡ None) }
     ensures number { OnOk result (lines.new.number ≡ lines.new.lines) }
     ensures lines { OnOk result (lines.new.lines ≡ line_number_after lines.old.lines (count + 1)) }
     ensures refused { IfRefused result (λ refusal. (s : SiteValue) (r : Reader) (v : ℕ) → r.phase ≡ AtWeights v count []
-        → RefusedAfter s r (ahead lines.old.pending (S.left src.old)) lines.old.lines refusal) }
-    ensures read { IfRead result (Rose (S.faults src.old) (S.faults src.new)) }
-    ensures count { S.faults src.old ≤ S.faults src.new }
+        → RefusedAfter s r (ahead lines.old (S.state src.old)) lines.old.lines refusal) }
+    ensures read { IfRead result (FaultsRose (S.state src.old) (S.state src.new)) }
+    ensures count { FaultsOnlyRise (S.state src.old) (S.state src.new) }
 {
-    if let Err(fault) = read_weights(lines, src, weights, count) {
-        return Err(fault);
-    }
+    read_weights(lines, src, weights, count)?;
     read_act(lines, src)
 }
 
@@ -255,16 +223,11 @@ impl ItemReader {
         requires { self.old.kept ≡ None → lines.old.kept ≡ None }
         ensures fault { IfSome self.old.kept (λ fault. (result ≡ Err fault) × (self.new ≡ self.old) × (lines.new ≡ lines.old) × (src.new ≡ src.old)) }
         ensures keeps { IfNone self.old.kept (self.new ≡ record self.old { kept = kept_after result }) }
+        ensures line { IfNone self.old.kept (ReadsOneLine result (IsAt AtBudget) lines.old lines.new (S.state src.old) (S.state src.new)) }
         ensures reads { IfOk result (λ n. (s : SiteValue) (r : Reader) → r.phase ≡ AtBudget
-            → ReadsTo s r (ahead lines.old.pending (S.left src.old)) (ahead lines.new.pending (S.left src.new)) (BudgetLine (pos n) ∷ []) (record r { phase = AtItem; budget = n })) }
-        ensures text { IfOk result (λ n. GivesFront (ahead lines.old.pending (S.left src.old)) (ahead lines.new.pending (S.left src.new)) (line (codes "budget" ∷ decimal n ∷ []))) }
+            → ReadsTo s r (ahead lines.old (S.state src.old)) (ahead lines.new (S.state src.new)) (BudgetLine (pos n) ∷ []) (record r { phase = AtItem; budget = n })) }
+        ensures text { IfOk result (λ n. GivesFront (ahead lines.old (S.state src.old)) (ahead lines.new (S.state src.new)) (line (codes "budget" ∷ decimal n ∷ []))) }
         ensures range { IfOk result (λ n. IsBudget n) }
-        ensures kept { OnOk result (lines.new.kept ≡ None) }
-        ensures lines { OnOk result (lines.new.lines ≡ line_number_after lines.old.lines 1) }
-        ensures refused { IfNone self.old.kept (IfRefused result (λ refusal. (s : SiteValue) (r : Reader) → r.phase ≡ AtBudget
-            → RefusedAfter s r (ahead lines.old.pending (S.left src.old)) lines.old.lines refusal)) }
-        ensures read { IfNone self.old.kept (IfRead result (Rose (S.faults src.old) (S.faults src.new))) }
-        ensures count { S.faults src.old ≤ S.faults src.new }
     {
         if let Some(fault) = self.fault {
             return Err(fault);
@@ -290,13 +253,13 @@ impl ItemReader {
         requires { self.old.kept ≡ None → lines.old.kept ≡ None }
         ensures fault { IfSome self.old.kept (λ fault. (result ≡ Err fault) × (self.new ≡ self.old) × (lines.new ≡ lines.old) × (src.new ≡ src.old)) }
         ensures keeps { IfNone self.old.kept (self.new.kept ≡ kept_after result) }
-        ensures reads { IfNone self.old.kept (ReadsNext (ahead lines.old.pending (S.left src.old)) (ahead lines.new.pending (S.left src.new)) lines.old.lines lines.new.lines self.new result) }
+        ensures reads { IfNone self.old.kept (ReadsNext (ahead lines.old (S.state src.old)) (ahead lines.new (S.state src.new)) lines.old.lines lines.new.lines self.new result) }
         ensures kept { OnOk result (lines.new.kept ≡ None) }
         ensures number { OnOk result (lines.new.number ≡ lines.new.lines) }
         ensures refused { IfNone self.old.kept (IfRefused result (λ refusal. (s : SiteValue) (r : Reader) → r.phase ≡ AtItem
-            → RefusedAfter s r (ahead lines.old.pending (S.left src.old)) lines.old.lines refusal)) }
-        ensures read { IfNone self.old.kept (IfRead result (Rose (S.faults src.old) (S.faults src.new))) }
-        ensures count { S.faults src.old ≤ S.faults src.new }
+            → RefusedAfter s r (ahead lines.old (S.state src.old)) lines.old.lines refusal)) }
+        ensures read { IfNone self.old.kept (IfRead result (FaultsRose (S.state src.old) (S.state src.new))) }
+        ensures count { FaultsOnlyRise (S.state src.old) (S.state src.new) }
     {
         if let Some(fault) = self.fault {
             return Err(fault);
@@ -314,13 +277,13 @@ impl ItemReader {
     fn read_next<S: Source>(&mut self, lines: &mut Lines, src: &mut S) -> Result<Next, ItemFault>
         requires { lines.old.kept ≡ None }
         ensures same { self.new.kept ≡ self.old.kept }
-        ensures reads { ReadsNext (ahead lines.old.pending (S.left src.old)) (ahead lines.new.pending (S.left src.new)) lines.old.lines lines.new.lines self.new result }
+        ensures reads { ReadsNext (ahead lines.old (S.state src.old)) (ahead lines.new (S.state src.new)) lines.old.lines lines.new.lines self.new result }
         ensures kept { OnOk result (lines.new.kept ≡ None) }
         ensures number { OnOk result (lines.new.number ≡ lines.new.lines) }
         ensures refused { IfRefused result (λ refusal. (s : SiteValue) (r : Reader) → r.phase ≡ AtItem
-            → RefusedAfter s r (ahead lines.old.pending (S.left src.old)) lines.old.lines refusal) }
-        ensures read { IfRead result (Rose (S.faults src.old) (S.faults src.new)) }
-        ensures count { S.faults src.old ≤ S.faults src.new }
+            → RefusedAfter s r (ahead lines.old (S.state src.old)) lines.old.lines refusal) }
+        ensures read { IfRead result (FaultsRose (S.state src.old) (S.state src.new)) }
+        ensures count { FaultsOnlyRise (S.state src.old) (S.state src.new) }
     {
         match read_item(lines, src, &mut self.members) {
             Ok(ItemLine::Row(kind)) => {

@@ -9,7 +9,6 @@ ghost use Rattle.cable_definitions.specs.Refusal.{IsClaimOf};
 ghost use Rattle.line_words.specs.Judged.{verdict_of};
 
 use cable_definitions::claim::Claim;
-use cable_definitions::site::Kind;
 use cable_text::is_word;
 use line_words::NamedClaim;
 use site_model::Site;
@@ -29,18 +28,6 @@ pub fn point_named(site: &Site, name: &[u8]) -> Option<u32>
     None
 }
 
-/// Whether a turbine stands at the point.
-fn is_turbine_at(site: &Site, point: u32) -> bool
-    requires { point < length site.now.points }
-    ensures { IsTrue result ↔ IsTrue (is_turbine (kind_of site.now point)) }
-{
-    match site.points()[point as usize].kind {
-        Kind::Turbine { .. } => true,
-        Kind::Substation { .. } => false,
-        Kind::Bend => false,
-    }
-}
-
 /// The number of the turbine with this name.
 fn turbine_named(site: &Site, name: &[u8]) -> Option<u32>
     ensures some { IfSome result (λ p. IsTrue (is_turbine (kind_of site.now p)) × (name_of site.now p ≡ name.now)) }
@@ -49,7 +36,7 @@ fn turbine_named(site: &Site, name: &[u8]) -> Option<u32>
     let Some(number) = point_named(site, name) else {
         return None;
     };
-    if is_turbine_at(site, number) {
+    if site.kind(number).is_turbine() {
         return Some(number);
     }
     None

@@ -6,9 +6,9 @@ ghost use Rattle.cable_definitions.specs.Site.{Site as SiteValue};
 ghost use Rattle.cable_definitions.specs.Document.{IsClaimInRange};
 ghost use Rattle.cable_definitions.specs.Text.{line, claim_line, HasNoNewline, Whole};
 ghost use Rattle.cable_definitions.specs.Refusal.{RawClaim, Reader, LayoutLine, ClaimLine, EndLine, AtJudged, AtAnyCables, AtCables, AtLast, Past, may_end, is_allowed, IsClaimOf, DocLine};
-ghost use Rattle.cable_text.specs.Stream.{Rose, GivesFront, IsAtEnd};
+ghost use Rattle.cable_text.specs.Stream.{FaultsRose, FaultsOnlyRise, GivesFront, IsAtEnd};
 ghost use Rattle.cable_text.specs.Lines.{ahead, StandsNext};
-ghost use Rattle.proof_text.specs.Reading.{line_number_after, ReadsTo, ReadsDocLine, RefusedAfter, IfRefused, IfRead};
+ghost use Rattle.proof_text.specs.Reading.{line_number_after, ReadsTo, ReadsDocLine, RefusedAfter, IfRefused, IfRead, IsBeforeLine, IsAt, IsAtOf, ReadsOneLine};
 
 use crate::fault::ItemFault;
 use crate::named::claim_named;
@@ -31,15 +31,10 @@ pub fn refused(lines: &Lines, cause: Cause) -> ItemFault
 /// missing is refused with the cause `Line`.
 pub fn next_line<S: Source>(lines: &mut Lines, src: &mut S) -> Result<(), ItemFault>
     requires { lines.old.kept ≡ None }
-    ensures found { OnOk result (StandsNext (ahead lines.old.pending (S.left src.old)) (Whole lines.new.text) (ahead lines.new.pending (S.left src.new))) }
+    ensures line { ReadsOneLine result IsBeforeLine lines.old lines.new (S.state src.old) (S.state src.new) }
+    ensures found { OnOk result (StandsNext (ahead lines.old (S.state src.old)) (Whole lines.new.text) (ahead lines.new (S.state src.new))) }
     ensures plain { OnOk result (HasNoNewline lines.new.text) }
-    ensures kept { OnOk result (lines.new.kept ≡ None) }
-    ensures lines { OnOk result (lines.new.lines ≡ line_number_after lines.old.lines 1) }
     ensures number { lines.new.number ≡ line_number_after lines.old.lines 1 }
-    ensures refused { IfRefused result (λ refusal. (s : SiteValue) (r : Reader) → may_end r.phase ≡ false
-        → RefusedAfter s r (ahead lines.old.pending (S.left src.old)) lines.old.lines refusal) }
-    ensures read { IfRead result (Rose (S.faults src.old) (S.faults src.new)) }
-    ensures count { S.faults src.old ≤ S.faults src.new }
 {
     match lines.next(src) {
         Ok(Line::Text) => Ok(()),
@@ -58,20 +53,13 @@ pub fn next_line<S: Source>(lines: &mut Lines, src: &mut S) -> Result<(), ItemFa
 /// is another line, `Limit` where K is out of range. `Read` where the source failed.
 pub fn read_count<S: Source>(lines: &mut Lines, src: &mut S) -> Result<u32, ItemFault>
     requires { lines.old.kept ≡ None }
+    ensures line { ReadsOneLine result (IsAt AtJudged) lines.old lines.new (S.state src.old) (S.state src.new) }
     ensures reads { IfOk result (λ k. (s : SiteValue) (r : Reader) → r.phase ≡ AtJudged
-        → ReadsTo s r (ahead lines.old.pending (S.left src.old)) (ahead lines.new.pending (S.left src.new)) (LayoutLine (pos k) ∷ []) (record r { phase = AtAnyCables k })) }
-    ensures text { IfOk result (λ k. GivesFront (ahead lines.old.pending (S.left src.old)) (ahead lines.new.pending (S.left src.new)) (line (codes "layout" ∷ decimal k ∷ []))) }
+        → ReadsTo s r (ahead lines.old (S.state src.old)) (ahead lines.new (S.state src.new)) (LayoutLine (pos k) ∷ []) (record r { phase = AtAnyCables k })) }
+    ensures text { IfOk result (λ k. GivesFront (ahead lines.old (S.state src.old)) (ahead lines.new (S.state src.new)) (line (codes "layout" ∷ decimal k ∷ []))) }
     ensures range { IfOk result (λ k. k ≤ 256) }
-    ensures kept { OnOk result (lines.new.kept ≡ None) }
-    ensures lines { OnOk result (lines.new.lines ≡ line_number_after lines.old.lines 1) }
-    ensures refused { IfRefused result (λ refusal. (s : SiteValue) (r : Reader) → r.phase ≡ AtJudged
-        → RefusedAfter s r (ahead lines.old.pending (S.left src.old)) lines.old.lines refusal) }
-    ensures read { IfRead result (Rose (S.faults src.old) (S.faults src.new)) }
-    ensures count { S.faults src.old ≤ S.faults src.new }
 {
-    if let Err(fault) = next_line(lines, src) {
-        return Err(fault);
-    }
+    next_line(lines, src)?;
     match layout_in(words_of(lines.text())) {
         Ok(count) => Ok(count),
         Err(cause) => Err(refused(lines, cause)),
@@ -91,21 +79,13 @@ pub fn read_claim<S: Source>(
     site: &Site,
 ) -> Result<Claim, ItemFault>
     requires { lines.old.kept ≡ None }
+    ensures line { ReadsOneLine result (IsAtOf site.now (AtCables 0)) lines.old lines.new (S.state src.old) (S.state src.new) }
     ensures reads { IfOk result (λ claim. (raw : RawClaim) × IsClaimOf site.now raw claim
-        × ((r : Reader) → r.phase ≡ AtCables 0 → ReadsDocLine site.now r (ahead lines.old.pending (S.left src.old)) (ahead lines.new.pending (S.left src.new)) (ClaimLine raw))) }
-    ensures text { IfOk result (λ claim. GivesFront (ahead lines.old.pending (S.left src.old)) (ahead lines.new.pending (S.left src.new)) (claim_line site.now claim)) }
+        × ((r : Reader) → r.phase ≡ AtCables 0 → ReadsDocLine site.now r (ahead lines.old (S.state src.old)) (ahead lines.new (S.state src.new)) (ClaimLine raw))) }
+    ensures text { IfOk result (λ claim. GivesFront (ahead lines.old (S.state src.old)) (ahead lines.new (S.state src.new)) (claim_line site.now claim)) }
     ensures range { IfOk result (λ claim. IsClaimInRange claim) }
-    ensures kept { OnOk result (lines.new.kept ≡ None) }
-    ensures number { OnOk result (lines.new.number ≡ lines.new.lines) }
-    ensures lines { OnOk result (lines.new.lines ≡ line_number_after lines.old.lines 1) }
-    ensures refused { IfRefused result (λ refusal. (r : Reader) → r.phase ≡ AtCables 0
-        → RefusedAfter site.now r (ahead lines.old.pending (S.left src.old)) lines.old.lines refusal) }
-    ensures read { IfRead result (Rose (S.faults src.old) (S.faults src.new)) }
-    ensures count { S.faults src.old ≤ S.faults src.new }
 {
-    if let Err(fault) = next_line(lines, src) {
-        return Err(fault);
-    }
+    next_line(lines, src)?;
     let claim = match claim_in(words_of(lines.text())) {
         Ok(claim) => claim,
         Err(cause) => return Err(refused(lines, cause)),
@@ -119,19 +99,12 @@ pub fn read_claim<S: Source>(
 /// Reads the line `end document`.
 fn read_last<S: Source>(lines: &mut Lines, src: &mut S) -> Result<(), ItemFault>
     requires { lines.old.kept ≡ None }
+    ensures line { ReadsOneLine result (IsAt AtLast) lines.old lines.new (S.state src.old) (S.state src.new) }
     ensures reads { OnOk result ((s : SiteValue) (r : Reader) → r.phase ≡ AtLast
-        → ReadsTo s r (ahead lines.old.pending (S.left src.old)) (ahead lines.new.pending (S.left src.new)) (EndLine ∷ []) (record r { phase = Past })) }
-    ensures text { OnOk result (GivesFront (ahead lines.old.pending (S.left src.old)) (ahead lines.new.pending (S.left src.new)) (line (codes "end" ∷ codes "document" ∷ []))) }
-    ensures kept { OnOk result (lines.new.kept ≡ None) }
-    ensures lines { OnOk result (lines.new.lines ≡ line_number_after lines.old.lines 1) }
-    ensures refused { IfRefused result (λ refusal. (s : SiteValue) (r : Reader) → r.phase ≡ AtLast
-        → RefusedAfter s r (ahead lines.old.pending (S.left src.old)) lines.old.lines refusal) }
-    ensures read { IfRead result (Rose (S.faults src.old) (S.faults src.new)) }
-    ensures count { S.faults src.old ≤ S.faults src.new }
+        → ReadsTo s r (ahead lines.old (S.state src.old)) (ahead lines.new (S.state src.new)) (EndLine ∷ []) (record r { phase = Past })) }
+    ensures text { OnOk result (GivesFront (ahead lines.old (S.state src.old)) (ahead lines.new (S.state src.new)) (line (codes "end" ∷ codes "document" ∷ []))) }
 {
-    if let Err(fault) = next_line(lines, src) {
-        return Err(fault);
-    }
+    next_line(lines, src)?;
     match end_in(words_of(lines.text())) {
         Ok(()) => Ok(()),
         Err(cause) => Err(refused(lines, cause)),
@@ -146,14 +119,14 @@ fn read_last<S: Source>(lines: &mut Lines, src: &mut S) -> Result<(), ItemFault>
 /// where it is whole. `Read` where the source failed.
 pub fn read_end<S: Source>(lines: &mut Lines, src: &mut S) -> Result<(), ItemFault>
     requires { lines.old.kept ≡ None }
-    ensures end { OnOk result (IsAtEnd (ahead lines.old.pending (S.left src.old))) }
-    ensures same { OnOk result (ahead lines.new.pending (S.left src.new) ≡ ahead lines.old.pending (S.left src.old)) }
+    ensures end { OnOk result (IsAtEnd (ahead lines.old (S.state src.old))) }
+    ensures same { OnOk result (ahead lines.new (S.state src.new) ≡ ahead lines.old (S.state src.old)) }
     ensures kept { OnOk result (lines.new.kept ≡ None) }
     ensures lines { OnOk result (lines.new.lines ≡ lines.old.lines) }
     ensures refused { IfRefused result (λ refusal. (s : SiteValue) (r : Reader) → IsTrue (may_end r.phase)
-        → RefusedAfter s r (ahead lines.old.pending (S.left src.old)) lines.old.lines refusal) }
-    ensures read { IfRead result (Rose (S.faults src.old) (S.faults src.new)) }
-    ensures count { S.faults src.old ≤ S.faults src.new }
+        → RefusedAfter s r (ahead lines.old (S.state src.old)) lines.old.lines refusal) }
+    ensures read { IfRead result (FaultsRose (S.state src.old) (S.state src.new)) }
+    ensures count { FaultsOnlyRise (S.state src.old) (S.state src.new) }
 {
     match lines.next(src) {
         Ok(Line::Text) => Err(refused(lines, Cause::Form)),
@@ -174,18 +147,16 @@ pub fn read_end<S: Source>(lines: &mut Lines, src: &mut S) -> Result<(), ItemFau
 pub fn read_close<S: Source>(lines: &mut Lines, src: &mut S) -> Result<(), ItemFault>
     requires { lines.old.kept ≡ None }
     ensures reads { OnOk result ((s : SiteValue) (r : Reader) → r.phase ≡ AtLast
-        → ReadsTo s r (ahead lines.old.pending (S.left src.old)) (ahead lines.new.pending (S.left src.new)) (EndLine ∷ []) (record r { phase = Past })) }
-    ensures text { OnOk result (GivesFront (ahead lines.old.pending (S.left src.old)) (ahead lines.new.pending (S.left src.new)) (line (codes "end" ∷ codes "document" ∷ []))) }
-    ensures end { OnOk result (IsAtEnd (ahead lines.new.pending (S.left src.new))) }
+        → ReadsTo s r (ahead lines.old (S.state src.old)) (ahead lines.new (S.state src.new)) (EndLine ∷ []) (record r { phase = Past })) }
+    ensures text { OnOk result (GivesFront (ahead lines.old (S.state src.old)) (ahead lines.new (S.state src.new)) (line (codes "end" ∷ codes "document" ∷ []))) }
+    ensures end { OnOk result (IsAtEnd (ahead lines.new (S.state src.new))) }
     ensures kept { OnOk result (lines.new.kept ≡ None) }
     ensures lines { OnOk result (lines.new.lines ≡ line_number_after lines.old.lines 1) }
     ensures refused { IfRefused result (λ refusal. (s : SiteValue) (r : Reader) → r.phase ≡ AtLast
-        → RefusedAfter s r (ahead lines.old.pending (S.left src.old)) lines.old.lines refusal) }
-    ensures read { IfRead result (Rose (S.faults src.old) (S.faults src.new)) }
-    ensures count { S.faults src.old ≤ S.faults src.new }
+        → RefusedAfter s r (ahead lines.old (S.state src.old)) lines.old.lines refusal) }
+    ensures read { IfRead result (FaultsRose (S.state src.old) (S.state src.new)) }
+    ensures count { FaultsOnlyRise (S.state src.old) (S.state src.new) }
 {
-    if let Err(fault) = read_last(lines, src) {
-        return Err(fault);
-    }
+    read_last(lines, src)?;
     read_end(lines, src)
 }

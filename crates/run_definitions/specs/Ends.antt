@@ -86,7 +86,7 @@ UsageEnds input out note ending = ⊥
 pub record IsRead (input : Effect) (s : Site) : Type 0 where
   pub valid : IsValid s
   pub read : (bytes : List ℕ) → Held input bytes → IsSiteOf bytes s
-  pub whole : IsAtEnd input.after
+  pub whole : IsAtEnd input.after.bytes
 
 -- a plan of the site that was read was printed with this claim
 pub record PrintsPlan (n lanes : ℕ) (input out : Effect) (claim : Claim) : Type 0 where
@@ -131,7 +131,7 @@ pub record PrintsPlanOf (s : Site) (n lanes : ℕ) (input out : Effect) (ending 
   pub plan : IsPlan s n lanes printed claim
   pub wrote : Wrote out printed
   pub ends : EndsWith ending claim
-  pub whole : IsAtEnd input.after
+  pub whole : IsAtEnd input.after.bytes
 
 -- ---- check
 -- What was read is a document of this site with this claim, which is accepted; where the input tells its bytes they are that document, and the input
@@ -140,7 +140,7 @@ pub record IsChecked (input : Effect) (s : Site) (claim : Claim) : Type 0 where
   pub bytes : List ℕ
   pub document : IsAcceptedDocument bytes s claim
   pub read : (held : List ℕ) → Held input held → held ≡ bytes
-  pub whole : IsAtEnd input.after
+  pub whole : IsAtEnd input.after.bytes
   pub says : Says s claim
 
 -- a document was read and is accepted, with this yes
@@ -188,7 +188,7 @@ site_promise input = answer_promise (IsRewriting input) (IsRefusedFront input) (
 pub record IsSiteWithLayout (input : Effect) (s : Site) (cables : List Cable) : Type 0 where
   pub valid : IsValid s
   pub read : (bytes : List ℕ) → Held input bytes → IsSiteWithCables bytes s cables
-  pub whole : IsAtEnd input.after
+  pub whole : IsAtEnd input.after.bytes
 
 -- what is answered of the cables: that they are a legal layout, with its cost, or the first broken rule with its two points by name
 abbrev pub IsJudgement : Site → List Cable → List ℕ → Type 0
@@ -248,7 +248,7 @@ drill_promise k turbines n = record {
 
 -- the call left a stream and its count of faults as they were
 abbrev pub NotUsed : Effect → Type 0
-NotUsed e = Untouched e × (e.faults_after ≡ e.faults_before)
+NotUsed e = e.after ≡ e.before
 
 -- ---- commands
 -- how a command ends that the program knows

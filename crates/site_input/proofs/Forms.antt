@@ -5,8 +5,8 @@ use Rattle.std.proofs.lemmas.Option.{none-some}
 use Rattle.std.proofs.lemmas.List.{nil_from_length, length-append}
 use Rattle.cable_definitions.specs.declared.site.SiteCode.{SiteCode}
 use Rattle.cable_definitions.specs.declared.site.SiteCode.TheVariants.{TooLong}
-use Rattle.cable_text.specs.Stream.{IsAtEnd}
-use Rattle.cable_text.specs.Lines.{ahead, LinesState, PeeksByte, IsLonger, StandsNext, ReadsLine, ReadsPiece, next_number}
+use Rattle.cable_text.specs.Stream.{StreamState, FaultsRose, GivesFront, IsAtEnd}
+use Rattle.cable_text.specs.Lines.{to_come, ahead, LinesState, PeeksByte, IsLonger, StandsNext, ReadsLine, ReadsPiece, next_number}
 use Rattle.cable_text.specs.declared.fault.Line.{Line}
 use Rattle.cable_text.specs.declared.fault.Line.TheVariants.{Text, End}
 use Rattle.cable_text.specs.declared.fault.LineFault.{LineFault}
@@ -16,7 +16,6 @@ use Rattle.cable_definitions.specs.Items.{IsLineFault}
 use Rattle.cable_definitions.specs.Document.{IsFaultAfter, code_after}
 use Rattle.cable_definitions.specs.Text.{site_lines, line_count, Piece, Whole, LongLine, CutLine, NoLine, IsNext}
 use Rattle.cable_definitions.specs.Site.{Site, IsValid}
-use Rattle.cable_text.specs.Stream.{GivesFront}
 use Rattle.site_model.specs.declared.fault.SiteFault.{SiteFault}
 use Rattle.site_model.specs.declared.fault.SiteFault.TheVariants.{Refused}
 use Rattle.run_definitions.specs.Bytes.{IsLineForm, IsJsonFault, IsWholeLineFault}
@@ -27,7 +26,7 @@ some_of a b e = cc
 head_of : (a b : ℕ) → a ∷ [] ≡ b ∷ [] → a ≡ b
 head_of a b e = cc
 
-first_byte : (b : ℕ) (pending : List ℕ) (left : Option (List ℕ)) (bytes : List ℕ) → slice_get pending 0 ≡ Some b → ahead pending left ≡ Some bytes → take 1 bytes ≡ b ∷ []
+first_byte : (b : ℕ) (pending : List ℕ) (left : Option (List ℕ)) (bytes : List ℕ) → slice_get pending 0 ≡ Some b → to_come pending left ≡ Some bytes → take 1 bytes ≡ b ∷ []
 first_byte b [] left bytes s a = absurd (none-some b s)
 first_byte b (c ∷ pending) None bytes s a = absurd (none-some bytes a)
 first_byte b (c ∷ pending) (Some left) bytes s a = sym (ap (take 1) (some_of _ bytes a)) ∙ ap (λ x. x ∷ []) (some_of c b s)
@@ -41,12 +40,12 @@ nothing_taken [] e f = absurd (omega (arith, ap length f))
 nothing_taken (b ∷ bytes) e f = absurd (omega (arith, ap length e))
 
 -- the byte that a look at an input finds tells its form
-pub form_of : (old new : LinesState) (left_old left_new : Option (List ℕ)) (i j : ℕ) (first : Option ℕ) (bytes : List ℕ) → PeeksByte old new left_old left_new i j (Ok first)
-    → ahead old.pending left_old ≡ Some bytes → (first ≡ Some 115) ↔ IsLineForm bytes
-form_of old new left_old left_new i j (Some b) bytes p a =
-    let found = first_byte b new.pending left_new bytes p.0 (p.1 ∙ a) in
+pub form_of : (old new : LinesState) (left_old left_new : StreamState) (first : Option ℕ) (bytes : List ℕ) → PeeksByte old new left_old left_new (Ok first)
+    → ahead old left_old ≡ Some bytes → (first ≡ Some 115) ↔ IsLineForm bytes
+form_of old new left_old left_new (Some b) bytes p a =
+    let found = first_byte b new.pending left_new.bytes bytes p.0 (p.1 ∙ a) in
     (λ e. found ∙ ap (λ x. x ∷ []) (some_of b 115 e), λ f. ap Some (head_of b 115 (sym found ∙ f)))
-form_of old new left_old left_new i j None bytes p a =
+form_of old new left_old left_new None bytes p a =
     let none = no_byte _ bytes p.0 a in
     (λ e. absurd (none-some 115 e), λ f. absurd (nothing_taken bytes none f))
 
@@ -69,8 +68,8 @@ pub first_fault : (lines : ℕ) (bytes : List ℕ) (code : SiteCode) (place : �
 first_fault lines bytes code place broken e f = subst (λ b. IsLineFault bytes b code place broken) (omega (arith, e)) (f (omega (arith, e)))
 
 -- the bytes that are to come before anything was pulled
-pub fresh_ahead : (pending : List ℕ) (left : Option (List ℕ)) (bytes : List ℕ) → pending ≡ [] → left ≡ Some bytes → ahead pending left ≡ Some bytes
-fresh_ahead pending left bytes e a = ap (λ p. ahead p left) e ∙ ap (ahead []) a
+pub fresh_ahead : (pending : List ℕ) (left : Option (List ℕ)) (bytes : List ℕ) → pending ≡ [] → left ≡ Some bytes → to_come pending left ≡ Some bytes
+fresh_ahead pending left bytes e a = ap (λ p. to_come p left) e ∙ ap (to_come []) a
 
 -- the bytes behind a site
 pub behind : (before middle : Option (List ℕ)) (text bytes : List ℕ) → GivesFront before middle text → before ≡ Some bytes
@@ -104,7 +103,7 @@ pub next_place : (number lines old count : ℕ) → number ≡ next_number lines
 next_place number lines old count e f g h = omega (arith, e, f, g, h)
 
 -- a source with nothing ahead has nothing left
-pub left_at_end : (pending : List ℕ) (left : Option (List ℕ)) → IsAtEnd (ahead pending left) → IsAtEnd left
+pub left_at_end : (pending : List ℕ) (left : Option (List ℕ)) → IsAtEnd (to_come pending left) → IsAtEnd left
 left_at_end pending None h = tt
 left_at_end pending (Some bytes) h = nil_from_length bytes (omega (arith, ap length h, length-append pending bytes))
 
@@ -118,16 +117,16 @@ at_no_line (Some bytes) new f = subst IsAtEnd (sym f.2) f.1.1
 no_text : ¬ (Text ≡ End)
 no_text e = cc
 
-at_end : (old new : Option (List ℕ)) (text : List ℕ) (i j : ℕ) (line : Line) → ReadsPiece old new text i j (Ok line) → line ≡ End → IsAtEnd new
-at_end old new text i j Text p e = absurd (no_text e)
-at_end old new text i j End p e = at_no_line old new p
+at_end : (old new : Option (List ℕ)) (text : List ℕ) (failed : Type 0) (line : Line) → ReadsPiece old new text failed (Ok line) → line ≡ End → IsAtEnd new
+at_end old new text failed Text p e = absurd (no_text e)
+at_end old new text failed End p e = at_no_line old new p
 
 -- where the input ends behind the lines, nothing is left
-pub ended_input : (old new : LinesState) (left_old left_new : Option (List ℕ)) (i j : ℕ) (line : Line) → old.kept ≡ None
-    → IfNone old.kept (ReadsLine old new left_old left_new i j (Ok line)) → line ≡ End → IsAtEnd left_new
-ended_input old new left_old left_new i j line k r e =
-    let reads = unkept old.kept (ReadsLine old new left_old left_new i j (Ok line)) k r in
-    left_at_end new.pending left_new (at_end _ _ new.text i j line reads.piece e)
+pub ended_input : (old new : LinesState) (left_old left_new : StreamState) (line : Line) → old.kept ≡ None
+    → IfNone old.kept (ReadsLine old new left_old left_new (Ok line)) → line ≡ End → IsAtEnd left_new.bytes
+ended_input old new left_old left_new line k r e =
+    let reads = unkept old.kept (ReadsLine old new left_old left_new (Ok line)) k r in
+    left_at_end new.pending left_new.bytes (at_end _ _ new.text (FaultsRose left_old left_new) line reads.piece e)
 
 -- what a call for the next line finds behind a site
 abbrev pub piece_of : List ℕ → Result Line LineFault → Piece
@@ -137,13 +136,13 @@ piece_of text (Err LongFault) = LongLine
 piece_of text (Err NoNewline) = CutLine
 piece_of text (Err Read) = NoLine
 
-found_piece : (old new : Option (List ℕ)) (text : List ℕ) (i j : ℕ) (result : Result Line LineFault) → ReadsPiece old new text i j result → result ≢ Err Read
+found_piece : (old new : Option (List ℕ)) (text : List ℕ) (failed : Type 0) (result : Result Line LineFault) → ReadsPiece old new text failed result → result ≢ Err Read
     → StandsNext old (piece_of text result) new
-found_piece old new text i j (Ok Text) p n = p.0
-found_piece old new text i j (Ok End) p n = p
-found_piece old new text i j (Err LongFault) p n = p
-found_piece old new text i j (Err NoNewline) p n = p
-found_piece old new text i j (Err Read) p n = absurd (n refl)
+found_piece old new text failed (Ok Text) p n = p.0
+found_piece old new text failed (Ok End) p n = p
+found_piece old new text failed (Err LongFault) p n = p
+found_piece old new text failed (Err NoNewline) p n = p
+found_piece old new text failed (Err Read) p n = absurd (n refl)
 
 pub text_piece : (text : List ℕ) (line : Line) → line ≡ Text → piece_of text (Ok line) ≡ Whole text
 text_piece text Text e = refl
@@ -162,17 +161,17 @@ read_is_none : (text : List ℕ) (piece : Piece) (result : Result Line LineFault
 read_is_none text piece result q p e = p (sym q ∙ ap (piece_of text) e)
 
 -- a line behind a whole site, or what stands there in place of one, is the fault that is answered
-pub refused_behind : {A : Type 0} → (old lines new : LinesState) (left_old left left_new : Option (List ℕ)) (i j : ℕ) (result : Result Line LineFault) (site : Site) (refusal : SiteFault) (at : ℕ)
+pub refused_behind : {A : Type 0} → (old lines new : LinesState) (left_old left left_new : StreamState) (result : Result Line LineFault) (site : Site) (refusal : SiteFault) (at : ℕ)
     (bytes : List ℕ) (code other : SiteCode) (place : ℕ) (broken : Bool) (piece : Piece)
-    → IsValid site → GivesFront (ahead old.pending left_old) (ahead lines.pending left) (site_lines site) → ahead old.pending left_old ≡ Some bytes
-    → lines.kept ≡ None → IfNone lines.kept (ReadsLine lines new left left_new i j result)
+    → IsValid site → GivesFront (ahead old left_old) (ahead lines left) (site_lines site) → ahead old left_old ≡ Some bytes
+    → lines.kept ≡ None → IfNone lines.kept (ReadsLine lines new left left_new result)
     → piece_of new.text result ≡ piece → ¬ (piece ≡ NoLine) → other ≡ code_after piece
     → lines.lines ≡ lines_after old.lines (line_count (site_lines site)) → old.lines ≡ 0 → line_count (site_lines site) ≤ 34100
     → at ≡ new.number → ◌≡◌ {A = Result A SiteFault} (Err refusal) (Err (Refused code place broken)) → refusal ≡ Refused other at false
     → IsWholeLineFault bytes code place
-refused_behind {A = A} old lines new left_old left left_new i j result site refusal at bytes code other place broken piece v gives a k r q p o count zero few number e f =
-    let reads = unkept lines.kept (ReadsLine lines new left left_new i j result) k r in
+refused_behind {A = A} old lines new left_old left left_new result site refusal at bytes code other place broken piece v gives a k r q p o count zero few number e f =
+    let reads = unkept lines.kept (ReadsLine lines new left left_new result) k r in
     let same = same_refusal {A = A} refusal code other place at broken false e f in
-    let found = subst (λ x. StandsNext (ahead lines.pending left) x (ahead new.pending left_new)) q (found_piece _ _ new.text i j result reads.piece (read_is_none new.text piece result q p)) in
+    let found = subst (λ x. StandsNext (ahead lines left) x (ahead new left_new)) q (found_piece _ _ new.text (FaultsRose left left_new) result reads.piece (read_is_none new.text piece result q p)) in
     let fault = fault_behind site bytes _ _ _ piece at v gives a found p (number ∙ next_place new.number lines.lines old.lines (line_count (site_lines site)) reads.number count zero few) in
     inr (fault_after_at bytes code (code_after piece) place at (sym o ∙ same.0, same.1) fault)

@@ -1,5 +1,5 @@
 ghost use Rattle.std.specs.Prelude.{◌≡◌, ℕ, ◌≤◌, ◌↔◌, List, Some, None, IsTrue, IfOk, OnOk, OnErr};
-ghost use Rattle.cable_text.specs.Stream.{Rose};
+ghost use Rattle.cable_text.specs.Stream.{FaultsRose, FaultsOnlyRise};
 ghost use Rattle.cable_text.specs.Lines.{ahead};
 ghost use Rattle.run_definitions.specs.Bytes.{IsLineForm};
 
@@ -8,12 +8,12 @@ use cable_text::{Failed, Lines, Source};
 /// Whether the input to come is a site in lines: whether its first byte is `s`, which stays.
 pub(crate) fn is_in_lines<S: Source>(lines: &mut Lines, src: &mut S) -> Result<bool, Failed>
     requires { lines.old.kept ≡ None }
-    ensures form { IfOk result (λ yes. (bytes : List ℕ) → ahead lines.old.pending (S.left src.old) ≡ Some bytes → (IsTrue yes ↔ IsLineForm bytes)) }
-    ensures same { OnOk result (ahead lines.new.pending (S.left src.new) ≡ ahead lines.old.pending (S.left src.old)) }
+    ensures form { IfOk result (λ yes. (bytes : List ℕ) → ahead lines.old (S.state src.old) ≡ Some bytes → (IsTrue yes ↔ IsLineForm bytes)) }
+    ensures same { OnOk result (ahead lines.new (S.state src.new) ≡ ahead lines.old (S.state src.old)) }
     ensures lines { OnOk result (lines.new.lines ≡ lines.old.lines) }
     ensures kept { OnOk result (lines.new.kept ≡ None) }
-    ensures failed { OnErr result (Rose (S.faults src.old) (S.faults src.new)) }
-    ensures count { S.faults src.old ≤ S.faults src.new }
+    ensures failed { OnErr result (FaultsRose (S.state src.old) (S.state src.new)) }
+    ensures count { FaultsOnlyRise (S.state src.old) (S.state src.new) }
 {
     match lines.peek(src) {
         Ok(first) => Ok(is_s(first)),

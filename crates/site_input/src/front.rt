@@ -1,7 +1,7 @@
 ghost use Rattle.std.specs.Prelude.{◌≡◌, ℕ, ◌≤◌, List, Bool, Some, Err, IfOk};
 ghost use Rattle.cable_definitions.specs.declared.site.SiteCode.{SiteCode as Code};
 ghost use Rattle.cable_definitions.specs.Site.{IsValid};
-ghost use Rattle.cable_text.specs.Stream.{Rose};
+ghost use Rattle.cable_text.specs.Stream.{FaultsRose, FaultsOnlyRise};
 ghost use Rattle.run_definitions.specs.Bytes.{IsFrontSite, IsFrontFault};
 
 use crate::form::is_in_lines;
@@ -21,11 +21,11 @@ use std::alloc::Global;
 /// `Memory` where there is none for the site.
 pub fn read_front<S: Source>(alloc: Global, src: &mut S) -> Result<Site, SiteFault>
     ensures valid { IfOk result (λ s. IsValid s) }
-    ensures site { IfOk result (λ s. (bytes : List ℕ) → S.left src.old ≡ Some bytes → IsFrontSite bytes s) }
+    ensures site { IfOk result (λ s. (bytes : List ℕ) → (S.state src.old).bytes ≡ Some bytes → IsFrontSite bytes s) }
     ensures refused { (code : Code) (place : ℕ) (broken : Bool) (bytes : List ℕ) → result ≡ Err (SiteFault.Refused code place broken)
-        → S.left src.old ≡ Some bytes → IsFrontFault bytes code place }
-    ensures read { result ≡ Err SiteFault.Read → Rose (S.faults src.old) (S.faults src.new) }
-    ensures count { S.faults src.old ≤ S.faults src.new }
+        → (S.state src.old).bytes ≡ Some bytes → IsFrontFault bytes code place }
+    ensures read { result ≡ Err SiteFault.Read → FaultsRose (S.state src.old) (S.state src.new) }
+    ensures count { FaultsOnlyRise (S.state src.old) (S.state src.new) }
 {
     let Ok(mut lines) = Lines::new(alloc) else {
         return Err(SiteFault::Memory);

@@ -1,7 +1,7 @@
 ghost use Rattle.std.specs.Prelude.{◌≡◌, ℕ, ◌≤◌, List, Bool, Some, None, Err, IfOk, OnOk};
 ghost use Rattle.cable_definitions.specs.declared.site.SiteCode.{SiteCode as Code};
 ghost use Rattle.cable_definitions.specs.Site.{IsValid};
-ghost use Rattle.cable_text.specs.Stream.{Rose, IsAtEnd};
+ghost use Rattle.cable_text.specs.Stream.{FaultsRose, FaultsOnlyRise, IsAtEnd};
 ghost use Rattle.cable_text.specs.Lines.{ahead};
 ghost use Rattle.run_definitions.specs.Bytes.{IsJsonSite, IsJsonFault};
 
@@ -21,28 +21,17 @@ pub(crate) fn read_json_input<S: Source>(
 ) -> Result<Site, SiteFault>
     requires { lines.kept ≡ None }
     ensures valid { IfOk result (λ s. IsValid s) }
-    ensures site { IfOk result (λ s. (bytes : List ℕ) → ahead lines.pending (S.left src.old) ≡ Some bytes → IsJsonSite bytes s) }
-    ensures whole { OnOk result (IsAtEnd (S.left src.new)) }
+    ensures site { IfOk result (λ s. (bytes : List ℕ) → ahead lines (S.state src.old) ≡ Some bytes → IsJsonSite bytes s) }
+    ensures whole { OnOk result (IsAtEnd (S.state src.new).bytes) }
     ensures refused { (code : Code) (place : ℕ) (broken : Bool) (bytes : List ℕ) → result ≡ Err (SiteFault.Refused code place broken)
-        → ahead lines.pending (S.left src.old) ≡ Some bytes → IsJsonFault bytes code place }
-    ensures read { result ≡ Err SiteFault.Read → Rose (S.faults src.old) (S.faults src.new) }
-    ensures count { S.faults src.old ≤ S.faults src.new }
+        → ahead lines (S.state src.old) ≡ Some bytes → IsJsonFault bytes code place }
+    ensures read { result ≡ Err SiteFault.Read → FaultsRose (S.state src.old) (S.state src.new) }
+    ensures count { FaultsOnlyRise (S.state src.old) (S.state src.new) }
 {
     match lines.rest(alloc, src, MOST_BYTES) {
         Ok(bytes) => read_json(alloc, bytes.as_slice()),
-        Err(RestFault::TooLong) => Err(refused_at(SiteCode::TooLong, 0)),
+        Err(RestFault::TooLong) => Err(SiteFault::refused(SiteCode::TooLong, 0)),
         Err(RestFault::Read) => Err(SiteFault::Read),
         Err(RestFault::Memory) => Err(SiteFault::Memory),
-    }
-}
-
-/// The refusal with a code at a place, of a line that is whole or of none.
-pub(crate) fn refused_at(code: SiteCode, place: u64) -> SiteFault
-    ensures { result ≡ SiteFault.Refused code place Bool.false }
-{
-    SiteFault::Refused {
-        code,
-        place,
-        broken_line: false,
     }
 }

@@ -1,13 +1,13 @@
 ghost use Rattle.std.specs.Prelude.{◌≡◌, ℕ, ◌≤◌, List, Bool, Some, None, Err, IfOk, OnOk};
 ghost use Rattle.cable_definitions.specs.declared.site.SiteCode.{SiteCode as Code};
 ghost use Rattle.cable_definitions.specs.Site.{IsValid};
-ghost use Rattle.cable_text.specs.Stream.{Rose, IsAtEnd};
+ghost use Rattle.cable_text.specs.Stream.{FaultsRose, FaultsOnlyRise, IsAtEnd};
 ghost use Rattle.cable_text.specs.Lines.{ahead};
 ghost use Rattle.cable_definitions.specs.Document.{IsSiteText};
 ghost use Rattle.run_definitions.specs.Bytes.{IsSiteOf, IsPlanFault, IsWholeLineFault};
 
 use crate::form::is_in_lines;
-use crate::json::{read_json_input, refused_at};
+use crate::json::read_json_input;
 use cable_text::{Line, LineFault, Lines, Source};
 use site_model::{Site, SiteCode, SiteFault};
 use site_text::read_site;
@@ -23,12 +23,12 @@ use std::alloc::Global;
 /// at its last value; `Memory` where there is none for the site.
 pub fn read_whole<S: Source>(alloc: Global, src: &mut S) -> Result<Site, SiteFault>
     ensures valid { IfOk result (λ s. IsValid s) }
-    ensures site { IfOk result (λ s. (bytes : List ℕ) → S.left src.old ≡ Some bytes → IsSiteOf bytes s) }
-    ensures whole { OnOk result (IsAtEnd (S.left src.new)) }
+    ensures site { IfOk result (λ s. (bytes : List ℕ) → (S.state src.old).bytes ≡ Some bytes → IsSiteOf bytes s) }
+    ensures whole { OnOk result (IsAtEnd (S.state src.new).bytes) }
     ensures refused { (code : Code) (place : ℕ) (broken : Bool) (bytes : List ℕ) → result ≡ Err (SiteFault.Refused code place broken)
-        → S.left src.old ≡ Some bytes → IsPlanFault bytes code place }
-    ensures read { result ≡ Err SiteFault.Read → Rose (S.faults src.old) (S.faults src.new) }
-    ensures count { S.faults src.old ≤ S.faults src.new }
+        → (S.state src.old).bytes ≡ Some bytes → IsPlanFault bytes code place }
+    ensures read { result ≡ Err SiteFault.Read → FaultsRose (S.state src.old) (S.state src.new) }
+    ensures count { FaultsOnlyRise (S.state src.old) (S.state src.new) }
 {
     let Ok(mut lines) = Lines::new(alloc) else {
         return Err(SiteFault::Memory);
@@ -49,12 +49,12 @@ fn read_whole_lines<S: Source>(
     requires fresh { lines.old.kept ≡ None }
     requires first { lines.old.lines ≡ 0 }
     ensures valid { IfOk result (λ s. IsValid s) }
-    ensures site { IfOk result (λ s. (bytes : List ℕ) → ahead lines.old.pending (S.left src.old) ≡ Some bytes → IsSiteText bytes s) }
-    ensures whole { OnOk result (IsAtEnd (S.left src.new)) }
+    ensures site { IfOk result (λ s. (bytes : List ℕ) → ahead lines.old (S.state src.old) ≡ Some bytes → IsSiteText bytes s) }
+    ensures whole { OnOk result (IsAtEnd (S.state src.new).bytes) }
     ensures refused { (code : Code) (place : ℕ) (broken : Bool) (bytes : List ℕ) → result ≡ Err (SiteFault.Refused code place broken)
-        → ahead lines.old.pending (S.left src.old) ≡ Some bytes → IsWholeLineFault bytes code place }
-    ensures read { result ≡ Err SiteFault.Read → Rose (S.faults src.old) (S.faults src.new) }
-    ensures count { S.faults src.old ≤ S.faults src.new }
+        → ahead lines.old (S.state src.old) ≡ Some bytes → IsWholeLineFault bytes code place }
+    ensures read { result ≡ Err SiteFault.Read → FaultsRose (S.state src.old) (S.state src.new) }
+    ensures count { FaultsOnlyRise (S.state src.old) (S.state src.new) }
 {
     let site = match read_site(alloc, lines, src) {
         Ok(site) => site,
@@ -62,9 +62,9 @@ fn read_whole_lines<S: Source>(
     };
     match lines.next(src) {
         Ok(Line::End) => Ok(site),
-        Ok(Line::Text) => Err(refused_at(SiteCode::Form, lines.number())),
-        Err(LineFault::TooLong) => Err(refused_at(SiteCode::TooLong, lines.number())),
-        Err(LineFault::NoNewline) => Err(refused_at(SiteCode::Form, lines.number())),
+        Ok(Line::Text) => Err(SiteFault::refused(SiteCode::Form, lines.number())),
+        Err(LineFault::TooLong) => Err(SiteFault::refused(SiteCode::TooLong, lines.number())),
+        Err(LineFault::NoNewline) => Err(SiteFault::refused(SiteCode::Form, lines.number())),
         Err(LineFault::Read) => Err(SiteFault::Read),
     }
 }

@@ -15,7 +15,7 @@ mod lists;
 mod members;
 mod top;
 
-use crate::lists::{add_lists, fault_at, refused};
+use crate::lists::{add_lists, fault_at};
 use crate::top::{is_top, mode_of, version_of};
 use serde_json::Value;
 use site_model::{Site, SiteBuilder, SiteCode, SiteFault};
@@ -40,7 +40,7 @@ pub fn read_json(alloc: Global, bytes: &[u8]) -> Result<Site, SiteFault>
     ensures read { result ≢ Err SiteFault.Read }
 {
     if bytes.len() > MOST_BYTES {
-        return Err(refused(SiteCode::TooLong, 0));
+        return Err(SiteFault::refused(SiteCode::TooLong, 0));
     }
     let tree = match Value::from_slice(alloc, bytes) {
         Ok(tree) => tree,
@@ -48,11 +48,11 @@ pub fn read_json(alloc: Global, bytes: &[u8]) -> Result<Site, SiteFault>
             if error.is_memory() {
                 return Err(SiteFault::Memory);
             }
-            return Err(refused(SiteCode::Form, 0));
+            return Err(SiteFault::refused(SiteCode::Form, 0));
         }
     };
     if !is_top(&tree) {
-        return Err(refused(SiteCode::Shape, 1));
+        return Err(SiteFault::refused(SiteCode::Shape, 1));
     }
     site_of(alloc, &tree)
 }
@@ -66,10 +66,10 @@ fn site_of(alloc: Global, tree: &Value) -> Result<Site, SiteFault>
 {
     let version = match version_of(tree) {
         Ok(version) => version,
-        Err(code) => return Err(refused(code, 1)),
+        Err(code) => return Err(SiteFault::refused(code, 1)),
     };
     let Some(mode) = mode_of(tree) else {
-        return Err(refused(SiteCode::Shape, 2));
+        return Err(SiteFault::refused(SiteCode::Shape, 2));
     };
     let Ok(mut builder) = SiteBuilder::new(alloc, version, mode) else {
         return Err(SiteFault::Memory);

@@ -14,23 +14,12 @@ use crate::members::members_at;
 use serde_json::Value;
 use site_model::{BuildFault, SiteBuilder, SiteCode, SiteFault, Version};
 
-/// The refusal of an item at a place.
-pub(crate) fn refused(code: SiteCode, place: u64) -> SiteFault
-    ensures { result ≡ SiteFault.Refused code place false }
-{
-    SiteFault::Refused {
-        code,
-        place,
-        broken_line: false,
-    }
-}
-
 /// The fault of a builder at a place.
 pub(crate) fn fault_at(place: u64, fault: BuildFault) -> SiteFault
     ensures { result ≡ fault_at place fault }
 {
     match fault {
-        BuildFault::Refused(code) => refused(code, place),
+        BuildFault::Refused(code) => SiteFault::refused(code, place),
         BuildFault::Memory => SiteFault::Memory,
     }
 }
@@ -53,7 +42,7 @@ fn add_type(
     ensures read { result ≢ Err SiteFault.Read }
 {
     let Some(found) = type_of(version, member) else {
-        return Err(refused(SiteCode::Shape, before + 1));
+        return Err(SiteFault::refused(SiteCode::Shape, before + 1));
     };
     match builder.add_type(found.capacity, found.price, found.loss) {
         Ok(()) => Ok(()),
@@ -95,7 +84,7 @@ fn add_point(builder: &mut SiteBuilder, member: &Value, before: u64) -> Result<(
     ensures read { result ≢ Err SiteFault.Read }
 {
     let Some(found) = point_of(member) else {
-        return Err(refused(SiteCode::Shape, before + 1));
+        return Err(SiteFault::refused(SiteCode::Shape, before + 1));
     };
     match builder.add_point(found.name.as_bytes(), found.x, found.y, found.kind) {
         Ok(()) => Ok(()),
@@ -135,7 +124,7 @@ fn add_corner(builder: &mut SiteBuilder, member: &Value, before: u64) -> Result<
     ensures read { result ≢ Err SiteFault.Read }
 {
     let Some(found) = corner_of(member) else {
-        return Err(refused(SiteCode::Shape, before + 1));
+        return Err(SiteFault::refused(SiteCode::Shape, before + 1));
     };
     match builder.add_corner(found.x, found.y) {
         Ok(()) => Ok(()),
@@ -170,7 +159,7 @@ fn add_obstacle(builder: &mut SiteBuilder, member: &Value, before: u64) -> Resul
     ensures read { result ≢ Err SiteFault.Read }
 {
     let Some(corners) = member.as_array() else {
-        return Err(refused(SiteCode::Shape, before + 1));
+        return Err(SiteFault::refused(SiteCode::Shape, before + 1));
     };
     match builder.add_obstacle(corners.len() as i128) {
         Ok(()) => add_corners(builder, corners.as_slice(), before + 1),
@@ -210,7 +199,7 @@ fn add_pair(builder: &mut SiteBuilder, member: &Value, before: u64) -> Result<()
     ensures read { result ≢ Err SiteFault.Read }
 {
     let Some(found) = pair_of(member) else {
-        return Err(refused(SiteCode::Shape, before + 1));
+        return Err(SiteFault::refused(SiteCode::Shape, before + 1));
     };
     match builder.add_pair(found.a.as_bytes(), found.b.as_bytes(), found.amount) {
         Ok(()) => Ok(()),
@@ -258,7 +247,7 @@ pub(crate) fn add_lists(
 {
     let types = members_at(tree, "types");
     if types.is_empty() {
-        return Err(refused(SiteCode::Form, 3));
+        return Err(SiteFault::refused(SiteCode::Form, 3));
     }
     let after_types = add_types(builder, version, types, 2)?;
     let after_points = add_points(builder, members_at(tree, "points"), after_types)?;

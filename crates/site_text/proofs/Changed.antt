@@ -13,7 +13,7 @@ use Rattle.cable_text.specs.Number.{LiesOutside}
 use Rattle.site_model.specs.declared.fault.BuildFault.{BuildFault}
 use Rattle.site_model.specs.declared.fault.BuildFault.TheVariants.{Refused, Memory}
 use Rattle.site_model.specs.Building.{type_item}
-use Rattle.site_model.proofs.Codes.{IsFirstCode-at, KeepsBelow-shaped}
+use Rattle.site_model.proofs.Codes.{IsFirstCode-at, KeepsBelow-past, KeepsBelow-line, KeepsBelow-shaped}
 use Rattle.site_model.proofs.Ranges.{passed}
 use Rattle.site_text.specs.declared.add.Progress.{Progress}
 use Rattle.site_text.specs.Item.{held_in_128, held_number, held_item, map_item}
@@ -252,20 +252,7 @@ not_long item h e = h (subst (λ (i : RawItem). All IsSpelled (fields_of i)) (sy
 
 -- an item that may not stand, and is no line that is too long
 pub form_first : (d : Draft) (item : RawItem) → ¬ (item ≡ Overlong) → ¬ (IsTrue (may_stand d item)) → IsFirstCode d item Form
-form_first d item short astray = record { broken = astray; least = below }
-  where
-    below : (other : SiteCode) → code_number other < 2 → ¬ (Breaks d item other)
-    below TooLong l b = short b
-    below Form l b = absurd (omega arith)
-    below Shape l b = absurd (omega arith)
-    below Range l b = absurd (omega arith)
-    below BadName l b = absurd (omega arith)
-    below SameName l b = absurd (omega arith)
-    below SamePlace l b = absurd (omega arith)
-    below UnknownName l b = absurd (omega arith)
-    below SamePair l b = absurd (omega arith)
-    below InObstacle l b = absurd (omega arith)
-    below TooMany l b = absurd (omega arith)
+form_first d item short astray = IsFirstCode-at d item Form (KeepsBelow-line d item short) astray
 
 -- such an item is refused by its form, or by its shape where the builder finds a range
 unspelled_first : (d : Draft) (item : RawItem) (code : SiteCode) → ¬ (All IsSpelled (fields_of item)) → IsFirstCode d (map_item filled item) code → IsFirstCode d item (unspelled code)
@@ -273,20 +260,9 @@ unspelled_first d item TooLong h f = absurd (not_long item h (long_same filled i
 unspelled_first d item Form h f = form_first d item (not_long item h) (λ t. f.broken (subst IsTrue (sym (may_same filled d item)) t))
 unspelled_first d item Shape h f =
     absurd (f.broken (subst IsTrue (sym (readable_same filled item)) (some_field item h), subst (All IsSpelled) (sym (fields_map filled item)) (are_filled (fields_of item))))
-unspelled_first d item Range h f = record { broken = λ p. h p.1; least = below }
-  where
-    below : (other : SiteCode) → code_number other < 3 → ¬ (Breaks d item other)
-    below TooLong l b = not_long item h b
-    below Form l b = f.least Form (omega arith) (λ t. b (subst IsTrue (may_same filled d item) t))
-    below Shape l b = absurd (omega arith)
-    below Range l b = absurd (omega arith)
-    below BadName l b = absurd (omega arith)
-    below SameName l b = absurd (omega arith)
-    below SamePlace l b = absurd (omega arith)
-    below UnknownName l b = absurd (omega arith)
-    below SamePair l b = absurd (omega arith)
-    below InObstacle l b = absurd (omega arith)
-    below TooMany l b = absurd (omega arith)
+unspelled_first d item Range h f =
+    let stands = KeepsBelow-past d item Form (KeepsBelow-line d item (not_long item h)) (λ astray. f.least Form (omega arith) (λ t. astray (subst IsTrue (may_same filled d item) t))) in
+    IsFirstCode-at d item Shape stands (λ p. h p.1)
 unspelled_first d item BadName h f = absurd (f.least Range (omega arith) (told_outside item h))
 unspelled_first d item SameName h f = absurd (f.least Range (omega arith) (told_outside item h))
 unspelled_first d item SamePlace h f = absurd (f.least Range (omega arith) (told_outside item h))

@@ -1,5 +1,4 @@
 pub mod Fields
-pub mod Writers
 pub mod PointLines
 pub mod SiteLines
 pub mod Numbers

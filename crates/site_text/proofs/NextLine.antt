@@ -1,11 +1,11 @@
 -- The line that stands next: a whole one, or the fault of one that is missing, too long or without its end.
-use Rattle.std.proofs.Common.{◌≡◌, ℕ, ◌<◌, ◌≤◌, inl, inr, List, [], ◌∷◌, ◌++◌, length, Bool, true, false, refl, sym, ap, ◌∙◌, subst, arith, append_assoc, Option, IfNone, Some, None, Result, Ok, Err}
+use Rattle.std.proofs.Common.{◌≡◌, ℕ, ◌≤◌, inl, inr, List, [], ◌∷◌, ◌++◌, length, Bool, true, false, refl, sym, ap, ◌∙◌, subst, append_assoc, Option, IfNone, Some, None, Result, Ok, Err}
 use Rattle.cable_definitions.specs.declared.site.Version.{Version}
 use Rattle.cable_definitions.specs.declared.site.SiteCode.{SiteCode}
-use Rattle.cable_definitions.specs.declared.site.SiteCode.TheVariants.{TooLong, Form, Shape, Range, BadName, SameName, SamePlace, UnknownName, SamePair, InObstacle, TooMany}
+use Rattle.cable_definitions.specs.declared.site.SiteCode.TheVariants.{TooLong, Form}
 use Rattle.cable_definitions.specs.Text.{Whole, LongLine, CutLine, NoLine, HasNoNewline}
-use Rattle.cable_definitions.specs.Items.{RawItem, AVersion, AMode, AType, APoint, AnObstacle, ACorner, APair, TheEnd, Misshapen, Stray, Unended, Missing, Overlong, Draft, Breaks, code_number, IsFirstCode, HasWords, IsItemOf, is_broken_line}
-use Rattle.cable_text.specs.Stream.{GivesFront}
+use Rattle.cable_definitions.specs.Items.{RawItem, Unended, Missing, Overlong, Draft, IsFirstCode, HasWords, IsItemOf, is_broken_line}
+use Rattle.cable_text.specs.Stream.{StreamState, FaultsRose, GivesFront}
 use Rattle.cable_text.specs.Lines.{LinesState, ahead, StandsNext, ReadsPiece, ReadsLine, next_number}
 use Rattle.cable_text.specs.declared.fault.Line.{Line}
 use Rattle.cable_text.specs.declared.fault.Line.TheVariants.{End}
@@ -15,6 +15,7 @@ use Rattle.site_model.specs.declared.fault.BuildFault.{BuildFault}
 use Rattle.site_model.specs.declared.fault.BuildFault.TheVariants.{Refused as RefusedCall, Memory as NoMemory}
 use Rattle.site_model.specs.declared.fault.SiteFault.{SiteFault}
 use Rattle.site_model.specs.declared.fault.SiteFault.TheVariants.{Refused}
+use Rattle.site_model.proofs.Codes.{KeepsBelow-none, IsFirstCode-at, not_broken}
 use Rattle.site_text.specs.Adding.{TextBreaks}
 use Rattle.site_text.specs.Reading.{fault_of_line, ReadsText, ReadsItemLine, FaultsNext, Faults}
 use Rattle.site_text.proofs.Changed.{form_first}
@@ -35,20 +36,7 @@ fault_parts P f c code n place b broken is e h =
 
 -- a line that is too long
 long_first : (d : Draft) → IsFirstCode d Overlong TooLong
-long_first d = record { broken = refl; least = below }
-  where
-    below : (other : SiteCode) → code_number other < 1 → ¬ (Breaks d Overlong other)
-    below TooLong l b = absurd (omega arith)
-    below Form l b = absurd (omega arith)
-    below Shape l b = absurd (omega arith)
-    below Range l b = absurd (omega arith)
-    below BadName l b = absurd (omega arith)
-    below SameName l b = absurd (omega arith)
-    below SamePlace l b = absurd (omega arith)
-    below UnknownName l b = absurd (omega arith)
-    below SamePair l b = absurd (omega arith)
-    below InObstacle l b = absurd (omega arith)
-    below TooMany l b = absurd (omega arith)
+long_first d = IsFirstCode-at d Overlong TooLong (KeepsBelow-none d Overlong) refl
 
 -- the faults of lines that are not whole, of bytes that are told
 finds_missing : (d : Draft) (before after : Option (List ℕ)) → StandsNext before NoLine after → FaultsNext d before Form true
@@ -63,21 +51,21 @@ finds_long : (d : Draft) (before after : Option (List ℕ)) → StandsNext befor
 finds_long d None after f = tt
 finds_long d (Some bytes) after f = record { bad = Overlong; rest = f.0; bad_at = record { piece = LongLine; next = f.1; item_is = refl }; first = long_first d; broken_is = refl }
 
-module _ (d : Draft) (old new : LinesState) (left_old left_new : Option (List ℕ)) (i j number : ℕ) (number_is : number ≡ new.number) where
-  pub missing_line : (r : Result Line LineFault) → r ≡ Ok End → ReadsLine old new left_old left_new i j r → Faults d (ahead old.pending left_old) old.lines Form number true
+module _ (d : Draft) (old new : LinesState) (left_old left_new : StreamState) (number : ℕ) (number_is : number ≡ new.number) where
+  pub missing_line : (r : Result Line LineFault) → r ≡ Ok End → ReadsLine old new left_old left_new r → Faults d (ahead old left_old) old.lines Form number true
   missing_line r e h =
-      let P : Result Line LineFault → Type 0 = λ q. ReadsPiece (ahead old.pending left_old) (ahead new.pending left_new) new.text i j q in
-      record { next = finds_missing d (ahead old.pending left_old) (ahead new.pending left_new) (subst P e h.piece); place_is = number_is ∙ h.number }
+      let P : Result Line LineFault → Type 0 = λ q. ReadsPiece (ahead old left_old) (ahead new left_new) new.text (FaultsRose left_old left_new) q in
+      record { next = finds_missing d (ahead old left_old) (ahead new left_new) (subst P e h.piece); place_is = number_is ∙ h.number }
 
-  pub cut_line : (r : Result Line LineFault) → r ≡ Err NoNewline → ReadsLine old new left_old left_new i j r → Faults d (ahead old.pending left_old) old.lines Form number true
+  pub cut_line : (r : Result Line LineFault) → r ≡ Err NoNewline → ReadsLine old new left_old left_new r → Faults d (ahead old left_old) old.lines Form number true
   cut_line r e h =
-      let P : Result Line LineFault → Type 0 = λ q. ReadsPiece (ahead old.pending left_old) (ahead new.pending left_new) new.text i j q in
-      record { next = finds_cut d (ahead old.pending left_old) (ahead new.pending left_new) (subst P e h.piece); place_is = number_is ∙ h.number }
+      let P : Result Line LineFault → Type 0 = λ q. ReadsPiece (ahead old left_old) (ahead new left_new) new.text (FaultsRose left_old left_new) q in
+      record { next = finds_cut d (ahead old left_old) (ahead new left_new) (subst P e h.piece); place_is = number_is ∙ h.number }
 
-  pub long_line : (r : Result Line LineFault) → r ≡ Err LongFault → ReadsLine old new left_old left_new i j r → Faults d (ahead old.pending left_old) old.lines TooLong number true
+  pub long_line : (r : Result Line LineFault) → r ≡ Err LongFault → ReadsLine old new left_old left_new r → Faults d (ahead old left_old) old.lines TooLong number true
   long_line r e h =
-      let P : Result Line LineFault → Type 0 = λ q. ReadsPiece (ahead old.pending left_old) (ahead new.pending left_new) new.text i j q in
-      record { next = finds_long d (ahead old.pending left_old) (ahead new.pending left_new) (subst P e h.piece); place_is = number_is ∙ h.number }
+      let P : Result Line LineFault → Type 0 = λ q. ReadsPiece (ahead old left_old) (ahead new left_new) new.text (FaultsRose left_old left_new) q in
+      record { next = finds_long d (ahead old left_old) (ahead new left_new) (subst P e h.piece); place_is = number_is ∙ h.number }
 
 -- ---- a whole line
 -- the bytes give its text and a newline
@@ -87,19 +75,7 @@ gives_text (Some bytes) after text f = (f.0, f.1.0 ∙ sym (append_assoc text (1
 
 -- an item that is said is no broken line
 said_whole : (version : Version) (ws : List (List ℕ)) (item : RawItem) → HasWords version ws item → is_broken_line item ≡ false
-said_whole v ws (AVersion n) h = refl
-said_whole v ws (AMode m) h = refl
-said_whole v ws (AType c p l) h = refl
-said_whole v ws (APoint n x y k) h = refl
-said_whole v ws (AnObstacle k) h = refl
-said_whole v ws (ACorner x y) h = refl
-said_whole v ws (APair a b r) h = refl
-said_whole v ws TheEnd h = refl
-said_whole v ws Misshapen h = refl
-said_whole v ws Stray h = refl
-said_whole v ws Unended h = absurd h
-said_whole v ws Missing h = absurd h
-said_whole v ws Overlong h = absurd h
+said_whole v ws item h = let Said : RawItem → Type 0 = λ i. HasWords v ws i in not_broken item (λ e. subst Said e h) (λ e. subst Said e h) (λ e. subst Said e h)
 
 item_whole : (version : Version) (text : List ℕ) (item : RawItem) → IsItemOf version (Whole text) item → is_broken_line item ≡ false
 item_whole v text item h = elim h [ inl l ↦ said_whole v l.ws item l.says | inr s ↦ ap is_broken_line s.0 ]

@@ -5,7 +5,7 @@ ghost use Rattle.cable_definitions.specs.declared.site.SiteCode.{SiteCode as Any
 ghost use Rattle.cable_definitions.specs.Site.{IsValid, version_number, latest_version};
 ghost use Rattle.cable_definitions.specs.Text.{HasNoNewline, site_lines, line_count};
 ghost use Rattle.cable_definitions.specs.Items.{Draft, TheEnd, IsFirstCode, IsGood, IsLineFault, empty_draft};
-ghost use Rattle.cable_text.specs.Stream.{GivesFront, Rose};
+ghost use Rattle.cable_text.specs.Stream.{GivesFront, FaultsRose, FaultsOnlyRise};
 ghost use Rattle.cable_text.specs.Lines.{ahead, next_number};
 ghost use Rattle.site_text.specs.Adding.{TextAdds, TextBreaks};
 ghost use Rattle.site_text.specs.Reading.{lines_after, most_lines, versioned, fault_of_line, begun, ReadsText, ReadsItemLine, ReadsItem, Faults};
@@ -32,14 +32,14 @@ pub fn read_site<S: Source>(
 ) -> Result<Site, SiteFault>
     requires { lines.old.kept ≡ None }
     ensures valid { IfOk result (λ s. IsValid s) }
-    ensures text { IfOk result (λ s. GivesFront (ahead lines.old.pending (S.left src.old)) (ahead lines.new.pending (S.left src.new)) (site_lines s)) }
+    ensures text { IfOk result (λ s. GivesFront (ahead lines.old (S.state src.old)) (ahead lines.new (S.state src.new)) (site_lines s)) }
     ensures kept { OnOk result (lines.new.kept ≡ None) }
     ensures lines { IfOk result (λ s. lines.new.lines ≡ lines_after lines.old.lines (line_count (site_lines s))) }
     ensures few { IfOk result (λ s. line_count (site_lines s) ≤ most_lines) }
-    ensures refused { (bytes : List ℕ) (code : AnyCode) (place : ℕ) (broken : Bool) → (ahead lines.old.pending (S.left src.old)) ≡ Some bytes → lines.old.lines + most_lines < 2 ^ 64
+    ensures refused { (bytes : List ℕ) (code : AnyCode) (place : ℕ) (broken : Bool) → (ahead lines.old (S.state src.old)) ≡ Some bytes → lines.old.lines + most_lines < 2 ^ 64
         → result ≡ Err (SiteFault.Refused code place broken) → IsLineFault bytes (lines.old.lines + 1) code place broken }
-    ensures read { result ≡ Err SiteFault.Read → Rose (S.faults src.old) (S.faults src.new) }
-    ensures count { S.faults src.old ≤ S.faults src.new }
+    ensures read { result ≡ Err SiteFault.Read → FaultsRose (S.state src.old) (S.state src.new) }
+    ensures count { FaultsOnlyRise (S.state src.old) (S.state src.new) }
 {
     let version = read_version(lines, src)?;
     let mode = read_mode(version, lines, src)?;
@@ -55,40 +55,18 @@ pub fn read_site<S: Source>(
 // ReadsItem the next line, so that it is the text of `lines`.
 fn next_text<S: Source>(lines: &mut Lines, src: &mut S) -> Result<(), SiteFault>
     requires { lines.old.kept ≡ None }
-    ensures reads { OnOk result (ReadsText (ahead lines.old.pending (S.left src.old)) (ahead lines.new.pending (S.left src.new)) lines.old lines.new) }
+    ensures reads { OnOk result (ReadsText (ahead lines.old (S.state src.old)) (ahead lines.new (S.state src.new)) lines.old lines.new) }
     ensures refused { (code : AnyCode) (place : ℕ) (broken : Bool) → result ≡ Err (SiteFault.Refused code place broken)
-        → (d : Draft) → Faults d (ahead lines.old.pending (S.left src.old)) lines.old.lines code place broken }
-    ensures read { result ≡ Err SiteFault.Read → Rose (S.faults src.old) (S.faults src.new) }
-    ensures count { S.faults src.old ≤ S.faults src.new }
+        → (d : Draft) → Faults d (ahead lines.old (S.state src.old)) lines.old.lines code place broken }
+    ensures read { result ≡ Err SiteFault.Read → FaultsRose (S.state src.old) (S.state src.new) }
+    ensures count { FaultsOnlyRise (S.state src.old) (S.state src.new) }
 {
     match lines.next(src) {
         Ok(Line::Text) => Ok(()),
-        Ok(Line::End) => Err(broken_line(SiteCode::Form, lines.number())),
-        Err(LineFault::TooLong) => Err(broken_line(SiteCode::TooLong, lines.number())),
-        Err(LineFault::NoNewline) => Err(broken_line(SiteCode::Form, lines.number())),
+        Ok(Line::End) => Err(SiteFault::broken(SiteCode::Form, lines.number())),
+        Err(LineFault::TooLong) => Err(SiteFault::broken(SiteCode::TooLong, lines.number())),
+        Err(LineFault::NoNewline) => Err(SiteFault::broken(SiteCode::Form, lines.number())),
         Err(LineFault::Read) => Err(SiteFault::Read),
-    }
-}
-
-// The fault of a line that is missing, too long or without its end.
-fn broken_line(code: SiteCode, place: u64) -> SiteFault
-    ensures { result ≡ SiteFault.Refused code place true }
-{
-    SiteFault::Refused {
-        code,
-        place,
-        broken_line: true,
-    }
-}
-
-// The fault of a whole line.
-fn refused(code: SiteCode, place: u64) -> SiteFault
-    ensures { result ≡ SiteFault.Refused code place false }
-{
-    SiteFault::Refused {
-        code,
-        place,
-        broken_line: false,
     }
 }
 
@@ -97,7 +75,7 @@ fn fault_of(fault: BuildFault, place: u64) -> SiteFault
     ensures { result ≡ fault_of_line fault place }
 {
     match fault {
-        BuildFault::Refused(code) => refused(code, place),
+        BuildFault::Refused(code) => SiteFault::refused(code, place),
         BuildFault::Memory => SiteFault::Memory,
     }
 }
@@ -106,16 +84,16 @@ fn fault_of(fault: BuildFault, place: u64) -> SiteFault
 fn read_version<S: Source>(lines: &mut Lines, src: &mut S) -> Result<Version, SiteFault>
     requires { lines.old.kept ≡ None }
     ensures version { IfOk result (λ version. version_number version ≤ latest_version) }
-    ensures reads { IfOk result (λ version. ReadsItem empty_draft (versioned version) (ahead lines.old.pending (S.left src.old)) (ahead lines.new.pending (S.left src.new)) lines.old.lines lines.new.lines) }
+    ensures reads { IfOk result (λ version. ReadsItem empty_draft (versioned version) (ahead lines.old (S.state src.old)) (ahead lines.new (S.state src.new)) lines.old.lines lines.new.lines) }
     ensures kept { OnOk result (lines.new.kept ≡ None) }
-    ensures refused { (code : AnyCode) (place : ℕ) (broken : Bool) → result ≡ Err (SiteFault.Refused code place broken) → Faults empty_draft (ahead lines.old.pending (S.left src.old)) lines.old.lines code place broken }
-    ensures read { result ≡ Err SiteFault.Read → Rose (S.faults src.old) (S.faults src.new) }
-    ensures count { S.faults src.old ≤ S.faults src.new }
+    ensures refused { (code : AnyCode) (place : ℕ) (broken : Bool) → result ≡ Err (SiteFault.Refused code place broken) → Faults empty_draft (ahead lines.old (S.state src.old)) lines.old.lines code place broken }
+    ensures read { result ≡ Err SiteFault.Read → FaultsRose (S.state src.old) (S.state src.new) }
+    ensures count { FaultsOnlyRise (S.state src.old) (S.state src.new) }
 {
     next_text(lines, src)?;
     match version_of(lines.text()) {
         Ok(version) => Ok(version),
-        Err(code) => Err(refused(code, lines.number())),
+        Err(code) => Err(SiteFault::refused(code, lines.number())),
     }
 }
 
@@ -142,16 +120,16 @@ fn version_of(text: &[u8]) -> Result<Version, SiteCode>
 // ReadsItem the line of the mode.
 fn read_mode<S: Source>(version: Version, lines: &mut Lines, src: &mut S) -> Result<Mode, SiteFault>
     requires { lines.old.kept ≡ None }
-    ensures reads { IfOk result (λ mode. ReadsItem (versioned version) (begun version mode) (ahead lines.old.pending (S.left src.old)) (ahead lines.new.pending (S.left src.new)) lines.old.lines lines.new.lines) }
+    ensures reads { IfOk result (λ mode. ReadsItem (versioned version) (begun version mode) (ahead lines.old (S.state src.old)) (ahead lines.new (S.state src.new)) lines.old.lines lines.new.lines) }
     ensures kept { OnOk result (lines.new.kept ≡ None) }
-    ensures refused { (code : AnyCode) (place : ℕ) (broken : Bool) → result ≡ Err (SiteFault.Refused code place broken) → Faults (versioned version) (ahead lines.old.pending (S.left src.old)) lines.old.lines code place broken }
-    ensures read { result ≡ Err SiteFault.Read → Rose (S.faults src.old) (S.faults src.new) }
-    ensures count { S.faults src.old ≤ S.faults src.new }
+    ensures refused { (code : AnyCode) (place : ℕ) (broken : Bool) → result ≡ Err (SiteFault.Refused code place broken) → Faults (versioned version) (ahead lines.old (S.state src.old)) lines.old.lines code place broken }
+    ensures read { result ≡ Err SiteFault.Read → FaultsRose (S.state src.old) (S.state src.new) }
+    ensures count { FaultsOnlyRise (S.state src.old) (S.state src.new) }
 {
     next_text(lines, src)?;
     match mode_of(version, lines.text()) {
         Ok(mode) => Ok(mode),
-        Err(code) => Err(refused(code, lines.number())),
+        Err(code) => Err(SiteFault::refused(code, lines.number())),
     }
 }
 
@@ -190,14 +168,14 @@ fn read_item<S: Source>(
     requires kept { lines.old.kept ≡ None }
     requires version { version ≡ builder.old.site.version }
     requires begun { 2 ≤ builder.old.stage }
-    ensures added { result ≡ Ok Progress.Added → ReadsItem builder.old builder.new (ahead lines.old.pending (S.left src.old)) (ahead lines.new.pending (S.left src.new)) lines.old.lines lines.new.lines }
-    ensures ended { result ≡ Ok Progress.Ended → ReadsItemLine version TheEnd (ahead lines.old.pending (S.left src.old)) (ahead lines.new.pending (S.left src.new)) lines.old.lines lines.new.lines }
+    ensures added { result ≡ Ok Progress.Added → ReadsItem builder.old builder.new (ahead lines.old (S.state src.old)) (ahead lines.new (S.state src.new)) lines.old.lines lines.new.lines }
+    ensures ended { result ≡ Ok Progress.Ended → ReadsItemLine version TheEnd (ahead lines.old (S.state src.old)) (ahead lines.new (S.state src.new)) lines.old.lines lines.new.lines }
     ensures unchanged { result ≡ Ok Progress.Ended → builder.new ≡ builder.old }
     ensures number { result ≡ Ok Progress.Ended → lines.new.number ≡ next_number lines.old.lines }
     ensures kept { OnOk result (lines.new.kept ≡ None) }
-    ensures refused { (code : AnyCode) (place : ℕ) (broken : Bool) → result ≡ Err (SiteFault.Refused code place broken) → Faults builder.old (ahead lines.old.pending (S.left src.old)) lines.old.lines code place broken }
-    ensures read { result ≡ Err SiteFault.Read → Rose (S.faults src.old) (S.faults src.new) }
-    ensures count { S.faults src.old ≤ S.faults src.new }
+    ensures refused { (code : AnyCode) (place : ℕ) (broken : Bool) → result ≡ Err (SiteFault.Refused code place broken) → Faults builder.old (ahead lines.old (S.state src.old)) lines.old.lines code place broken }
+    ensures read { result ≡ Err SiteFault.Read → FaultsRose (S.state src.old) (S.state src.new) }
+    ensures count { FaultsOnlyRise (S.state src.old) (S.state src.new) }
 {
     next_text(lines, src)?;
     match add_text(builder, version, lines.text()) {

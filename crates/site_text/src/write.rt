@@ -6,10 +6,9 @@ ghost use Rattle.cable_definitions.specs.Text.{number, site_line, mode_line, typ
 ghost use Rattle.cable_definitions.specs.Site.{IsPair};
 ghost use Rattle.std.specs.Fmt.{decimal};
 ghost use Rattle.cable_text.specs.Stream.{Writes};
-ghost use Rattle.site_text.specs.Line.{field_text};
+ghost use Rattle.cable_text.specs.Fields.{field_text};
 
-use crate::line::{Field, push_line};
-use cable_text::{Failed, Sink};
+use cable_text::{Failed, Field, Sink, count_of, push_line};
 use site_model::{CableType, Kind, Mode, Obstacle, Pair, PairRule, Place, Point, Site, Version};
 
 /// Appends the one text of the site in line form, up to and with `end site`.
@@ -19,8 +18,7 @@ use site_model::{CableType, Kind, Mode, Obstacle, Pair, PairRule, Place, Point, 
 /// `Failed` only where the count of `out` rose or stands at its last value. Some first part of the
 /// text was appended then.
 pub fn write_site<O: Sink>(site: &Site, out: &mut O) -> Result<(), Failed>
-    ensures { Writes result (O.taken out.old) (O.taken out.new) (O.faults out.old)
-        (O.faults out.new) (site_lines site.now) }
+    ensures { Writes result (O.state out.old) (O.state out.new) (site_lines site.now) }
 {
     push_version(site.version(), out)?;
     push_mode(site.mode(), out)?;
@@ -33,8 +31,7 @@ pub fn write_site<O: Sink>(site: &Site, out: &mut O) -> Result<(), Failed>
 
 // Appends `site 1` or `site 2`.
 fn push_version<O: Sink>(version: Version, out: &mut O) -> Result<(), Failed>
-    ensures { Writes result (O.taken out.old) (O.taken out.new) (O.faults out.old)
-        (O.faults out.new) (site_line version) }
+    ensures { Writes result (O.state out.old) (O.state out.new) (site_line version) }
 {
     match version {
         Version::One => push_line(b"site", &[Field::Word(b"1")], out),
@@ -44,8 +41,7 @@ fn push_version<O: Sink>(version: Version, out: &mut O) -> Result<(), Failed>
 
 // Appends `mode tree` or `mode strings`.
 fn push_mode<O: Sink>(mode: Mode, out: &mut O) -> Result<(), Failed>
-    ensures { Writes result (O.taken out.old) (O.taken out.new) (O.faults out.old)
-        (O.faults out.new) (mode_line mode) }
+    ensures { Writes result (O.state out.old) (O.state out.new) (mode_line mode) }
 {
     match mode {
         Mode::Tree => push_line(b"mode", &[Field::Word(b"tree")], out),
@@ -55,8 +51,7 @@ fn push_mode<O: Sink>(mode: Mode, out: &mut O) -> Result<(), Failed>
 
 // Appends the lines of the cable types.
 fn push_types<O: Sink>(version: Version, types: &[CableType], out: &mut O) -> Result<(), Failed>
-    ensures { Writes result (O.taken out.old) (O.taken out.new) (O.faults out.old)
-        (O.faults out.new) (concat (map (type_line version) types.now)) }
+    ensures { Writes result (O.state out.old) (O.state out.new) (concat (map (type_line version) types.now)) }
 {
     for cable_type in types {
         push_type(version, *cable_type, out)?;
@@ -66,21 +61,23 @@ fn push_types<O: Sink>(version: Version, types: &[CableType], out: &mut O) -> Re
 
 // Appends the line of a cable type.
 fn push_type<O: Sink>(version: Version, cable_type: CableType, out: &mut O) -> Result<(), Failed>
-    ensures { Writes result (O.taken out.old) (O.taken out.new) (O.faults out.old)
-        (O.faults out.new) (type_line version cable_type) }
+    ensures { Writes result (O.state out.old) (O.state out.new) (type_line version cable_type) }
 {
-    let capacity = count_of(cable_type.capacity);
-    let price = count_of(cable_type.price);
+    let capacity = small_count(cable_type.capacity);
+    let price = small_count(cable_type.price);
     match version {
         Version::One => push_line(b"type", &[capacity, price], out),
-        Version::Two => push_line(b"type", &[capacity, price, count_of(cable_type.loss)], out),
+        Version::Two => push_line(
+            b"type",
+            &[capacity, price, small_count(cable_type.loss)],
+            out,
+        ),
     }
 }
 
 // Appends the lines of the points.
 fn push_points<O: Sink>(points: &[Point], out: &mut O) -> Result<(), Failed>
-    ensures { Writes result (O.taken out.old) (O.taken out.new) (O.faults out.old)
-        (O.faults out.new) (concat (map point_line points.now)) }
+    ensures { Writes result (O.state out.old) (O.state out.new) (concat (map point_line points.now)) }
 {
     for point in points {
         push_point(point, out)?;
@@ -90,16 +87,15 @@ fn push_points<O: Sink>(points: &[Point], out: &mut O) -> Result<(), Failed>
 
 // Appends the line of a point.
 fn push_point<O: Sink>(point: &Point, out: &mut O) -> Result<(), Failed>
-    ensures { Writes result (O.taken out.old) (O.taken out.new) (O.faults out.old)
-        (O.faults out.new) (point_line point.now) }
+    ensures { Writes result (O.state out.old) (O.state out.new) (point_line point.now) }
 {
     let name = Field::Word(point.name.as_slice());
     let x = x_of(point.at);
     let y = y_of(point.at);
     match point.kind {
-        Kind::Turbine { power } => push_line(b"turbine", &[name, x, y, count_of(power)], out),
+        Kind::Turbine { power } => push_line(b"turbine", &[name, x, y, small_count(power)], out),
         Kind::Substation { feeders, power } => {
-            let fields = [name, x, y, count_of(feeders), count_of(power)];
+            let fields = [name, x, y, small_count(feeders), small_count(power)];
             push_line(b"substation", &fields, out)
         }
         Kind::Bend => push_line(b"bend", &[name, x, y], out),
@@ -107,10 +103,10 @@ fn push_point<O: Sink>(point: &Point, out: &mut O) -> Result<(), Failed>
 }
 
 // A number that isn't negative.
-fn count_of(value: u32) -> Field<'static>
+fn small_count(value: u32) -> Field<'static>
     ensures { field_text result ≡ decimal value }
 {
-    Field::Number(i128::from(value))
+    count_of(u64::from(value))
 }
 
 // The first coordinate of a place.
@@ -129,8 +125,7 @@ fn y_of(place: Place) -> Field<'static>
 
 // Appends the lines of the obstacles.
 fn push_obstacles<O: Sink>(obstacles: &[Obstacle], out: &mut O) -> Result<(), Failed>
-    ensures { Writes result (O.taken out.old) (O.taken out.new) (O.faults out.old)
-        (O.faults out.new) (concat (map obstacle_lines obstacles.now)) }
+    ensures { Writes result (O.state out.old) (O.state out.new) (concat (map obstacle_lines obstacles.now)) }
 {
     for obstacle in obstacles {
         push_obstacle(obstacle, out)?;
@@ -140,8 +135,7 @@ fn push_obstacles<O: Sink>(obstacles: &[Obstacle], out: &mut O) -> Result<(), Fa
 
 // Appends the line of an obstacle and those of its corners.
 fn push_obstacle<O: Sink>(obstacle: &Obstacle, out: &mut O) -> Result<(), Failed>
-    ensures { Writes result (O.taken out.old) (O.taken out.new) (O.faults out.old)
-        (O.faults out.new) (obstacle_lines obstacle.now) }
+    ensures { Writes result (O.state out.old) (O.state out.new) (obstacle_lines obstacle.now) }
 {
     let corners = obstacle.as_slice();
     push_line(b"obstacle", &[len_of(corners)], out)?;
@@ -157,8 +151,7 @@ fn len_of(corners: &[Place]) -> Field<'static>
 
 // Appends the lines of the corners.
 fn push_corners<O: Sink>(corners: &[Place], out: &mut O) -> Result<(), Failed>
-    ensures { Writes result (O.taken out.old) (O.taken out.new) (O.faults out.old)
-        (O.faults out.new) (concat (map corner_line corners.now)) }
+    ensures { Writes result (O.state out.old) (O.state out.new) (concat (map corner_line corners.now)) }
 {
     for corner in corners {
         push_corner(*corner, out)?;
@@ -168,16 +161,14 @@ fn push_corners<O: Sink>(corners: &[Place], out: &mut O) -> Result<(), Failed>
 
 // Appends the line of a corner.
 fn push_corner<O: Sink>(corner: Place, out: &mut O) -> Result<(), Failed>
-    ensures { Writes result (O.taken out.old) (O.taken out.new) (O.faults out.old)
-        (O.faults out.new) (corner_line corner) }
+    ensures { Writes result (O.state out.old) (O.state out.new) (corner_line corner) }
 {
     push_line(b"corner", &[x_of(corner), y_of(corner)], out)
 }
 
 // Appends the lines of the pair rules.
 fn push_pairs<O: Sink>(site: &Site, out: &mut O) -> Result<(), Failed>
-    ensures { Writes result (O.taken out.old) (O.taken out.new) (O.faults out.old)
-        (O.faults out.new) (concat (map (pair_line site.now) site.now.pairs)) }
+    ensures { Writes result (O.state out.old) (O.state out.new) (concat (map (pair_line site.now) site.now.pairs)) }
 {
     for pair in site.pairs() {
         push_pair(site, *pair, out)?;
@@ -188,15 +179,12 @@ fn push_pairs<O: Sink>(site: &Site, out: &mut O) -> Result<(), Failed>
 // Appends the line of a pair rule.
 fn push_pair<O: Sink>(site: &Site, pair: Pair, out: &mut O) -> Result<(), Failed>
     requires { IsPair site.now.points pair }
-    ensures { Writes result (O.taken out.old) (O.taken out.new) (O.faults out.old)
-        (O.faults out.new) (pair_line site.now pair) }
+    ensures { Writes result (O.state out.old) (O.state out.new) (pair_line site.now pair) }
 {
     let a = Field::Word(name_of(site.points(), pair.a));
     let b = Field::Word(name_of(site.points(), pair.b));
     match pair.rule {
-        PairRule::Charge(amount) => {
-            push_line(b"charge", &[a, b, Field::Number(i128::from(amount))], out)
-        }
+        PairRule::Charge(amount) => { push_line(b"charge", &[a, b, count_of(amount)], out) }
         PairRule::Closed => push_line(b"closed", &[a, b], out),
     }
 }

@@ -10,7 +10,7 @@ write_summary-requires g c = claim_found _ _ _ _ _ _ _ _ c.in_ok-plan.ensures
 
 pub returns-in_err-write_summary : goal.returns-in_err-write_summary
 returns-in_err-write_summary g c =
-    let out = effect g.O.Sink.taken g.O.Sink.faults c.args.out.now c.write_summary.new.out in
+    let out = effect (g.O.Sink.state c.args.out.now) (g.O.Sink.state c.write_summary.new.out) in
     let p = err_from_is_err_and c.from_residual-in_err-write_summary.result c.from_residual-in_err-write_summary.ensures.1 in
     rw (p.1, p.2) (summary_begun c.args.k c.args.turbines c.args.budget out c.in_ok-plan.plan.claim _
     (drilled c.in_ok-site.site c.args.k c.args.turbines c.args.budget c.in_ok-arcs.arcs c.len.result c.in_ok-plan.plan.layout c.in_ok-plan.plan.claim c.requires.some c.requires.most
@@ -18,7 +18,7 @@ returns-in_err-write_summary g c =
 
 pub returns : goal.returns
 returns g c =
-    let out = effect g.O.Sink.taken g.O.Sink.faults c.args.out.now c.write_summary.new.out in
+    let out = effect (g.O.Sink.state c.args.out.now) (g.O.Sink.state c.write_summary.new.out) in
     drill_done c.args.k c.args.turbines c.args.budget out c.in_ok-plan.plan.claim c.ending_of.result _
     (drilled c.in_ok-site.site c.args.k c.args.turbines c.args.budget c.in_ok-arcs.arcs c.len.result c.in_ok-plan.plan.layout c.in_ok-plan.plan.claim c.requires.some c.requires.most
     c.points-points.ensures.valid c.in_ok-site.ensures c.in_ok-arcs.ensures c.len.ensures.count c.in_ok-plan.ensures) c.in_ok-write_summary.ensures.ok c.ending_of.ensures

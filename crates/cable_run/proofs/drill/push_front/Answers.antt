@@ -1,7 +1,7 @@
 use Rattle.std.proofs.Common.{◌++◌, codes}
 use Rattle.std.specs.Fmt.{decimal}
 use Rattle.cable_text.proofs.Writing.{Writes-then}
-use Rattle.site_text.proofs.Writers.{longer, handed}
+use Rattle.cable_text.proofs.Writers.{longer, handed}
 use Rattle.cable_run.proofs.drill.push_front.Goals as goal
 
 pub returns-in_err-push_counted : goal.returns-in_err-push_counted

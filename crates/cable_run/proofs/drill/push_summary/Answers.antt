@@ -1,6 +1,6 @@
 use Rattle.cable_definitions.specs.Text.{claim_line}
 use Rattle.cable_text.proofs.Writing.{Writes-then}
-use Rattle.site_text.proofs.Writers.{longer, handed, written_as}
+use Rattle.cable_text.proofs.Writers.{longer, handed, written_as}
 use Rattle.cable_run.proofs.Summary.{summary_parts}
 use Rattle.cable_run.proofs.drill.push_summary.Goals as goal
 

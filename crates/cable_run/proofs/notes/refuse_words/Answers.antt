@@ -6,4 +6,4 @@ pub returns-in-Err : goal.returns-in-Err
 returns-in-Err g c =
     let first = c.in-Err.ensures.writes in
     let then = c.note_write_fault.ensures in
-    inr (then.ending, failed_twice _ _ _ _ _ _ _ first.count then.count first.failed first.part then.note)
+    inr (then.ending, failed_twice _ _ _ _ first.count then.count first.failed first.part then.note)

@@ -14,15 +14,15 @@ returns-in_err-arcs g c =
 
 pub returns-in_err-write_head : goal.returns-in_err-write_head
 returns-in_err-write_head g c =
-    let input = effect g.S.Source.left g.S.Source.faults c.args.input.now c.read_site.new.input in
-    let out = effect g.O.Sink.taken g.O.Sink.faults c.args.out.now c.write_head.new.out in
+    let input = effect (g.S.Source.state c.args.input.now) (g.S.Source.state c.read_site.new.input) in
+    let out = effect (g.O.Sink.state c.args.out.now) (g.O.Sink.state c.write_head.new.out) in
     let p = err_from_is_err_and c.from_residual-in_err-write_head.result c.from_residual-in_err-write_head.ensures.1 in
     rw (p.1, p.2) (c.in_err-write_head.ensures.failed, head_part input out c.in_ok-site.site c.args.budget c.args.lanes c.in_ok-arcs.arcs c.in_ok-site.ensures c.in_ok-arcs.ensures c.in_err-write_head.ensures.part)
 
 pub returns-in_err-plan : goal.returns-in_err-plan
 returns-in_err-plan g c =
-    let input = effect g.S.Source.left g.S.Source.faults c.args.input.now c.read_site.new.input in
-    let out = effect g.O.Sink.taken g.O.Sink.faults c.args.out.now c.search.new.out in
+    let input = effect (g.S.Source.state c.args.input.now) (g.S.Source.state c.read_site.new.input) in
+    let out = effect (g.O.Sink.state c.args.out.now) (g.O.Sink.state c.search.new.out) in
     let p = err_from_is_err_and c.from_residual-in_err-plan.result c.from_residual-in_err-plan.ensures.1 in
     rw p.1 (search_fails c.args.budget c.args.lanes input out c.in_err-plan.field-0.0 p.0 p.2 (λ e. Rose-after _ _ _ c.in_ok-write_head.ensures.count (c.in_err-plan.ensures.failed (ap Err e)))
     (items_part input out _ c.in_ok-site.site c.args.budget c.args.lanes c.in_ok-arcs.arcs c.in_ok-site.ensures c.in_ok-arcs.ensures c.in_ok-write_head.ensures.ok c.in_err-plan.ensures.part))
@@ -35,8 +35,8 @@ write_tail-requires-clause-claim g c = claim_found _ _ _ _ _ _ _ _ c.in_ok-plan.
 
 pub returns-in_err-write_tail : goal.returns-in_err-write_tail
 returns-in_err-write_tail g c =
-    let input = effect g.S.Source.left g.S.Source.faults c.args.input.now c.read_site.new.input in
-    let out = effect g.O.Sink.taken g.O.Sink.faults c.args.out.now c.write_tail.new.out in
+    let input = effect (g.S.Source.state c.args.input.now) (g.S.Source.state c.read_site.new.input) in
+    let out = effect (g.O.Sink.state c.args.out.now) (g.O.Sink.state c.write_tail.new.out) in
     let p = err_from_is_err_and c.from_residual-in_err-write_tail.result c.from_residual-in_err-write_tail.ensures.1 in
     rw (p.1, p.2) (
       Rose-after _ _ _ c.in_ok-write_head.ensures.count (Rose-after _ _ _ c.in_ok-plan.ensures.count c.in_err-write_tail.ensures.failed),
@@ -46,8 +46,8 @@ returns-in_err-write_tail g c =
 
 pub returns : goal.returns
 returns g c =
-    let input = effect g.S.Source.left g.S.Source.faults c.args.input.now c.read_site.new.input in
-    let out = effect g.O.Sink.taken g.O.Sink.faults c.args.out.now c.write_tail.new.out in
+    let input = effect (g.S.Source.state c.args.input.now) (g.S.Source.state c.read_site.new.input) in
+    let out = effect (g.O.Sink.state c.args.out.now) (g.O.Sink.state c.write_tail.new.out) in
     plan_done c.args.budget c.args.lanes input out c.in_ok-plan.plan.claim c.ending_of.result
     (printed_whole input out _ _ c.in_ok-site.site c.args.budget c.args.lanes c.in_ok-arcs.arcs c.in_ok-plan.plan.layout c.in_ok-plan.plan.claim c.requires.some c.requires.most
     c.in_ok-site.ensures c.in_ok-arcs.ensures c.in_ok-write_head.ensures.ok c.in_ok-plan.ensures.plan c.in_ok-write_tail.ensures.ok) c.ending_of.ensures

@@ -2,7 +2,7 @@ use Rattle.std.proofs.Common.{codes, [], ◌∷◌}
 use Rattle.std.specs.Fmt.{decimal}
 use Rattle.cable_definitions.specs.Text.{line}
 use Rattle.cable_text.proofs.Writing.{Writes-then}
-use Rattle.site_text.proofs.Writers.{longer, handed}
+use Rattle.cable_text.proofs.Writers.{longer, handed}
 use Rattle.cable_run.proofs.plan.write_head.Goals as goal
 
 pub returns-in_err-write_site : goal.returns-in_err-write_site

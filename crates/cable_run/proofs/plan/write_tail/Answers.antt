@@ -1,7 +1,7 @@
 use Rattle.std.proofs.Common.{codes, [], ◌∷◌, ◌++◌}
 use Rattle.cable_definitions.specs.Text.{line, claim_line}
 use Rattle.cable_text.proofs.Writing.{Writes-then}
-use Rattle.site_text.proofs.Writers.{longer, handed}
+use Rattle.cable_text.proofs.Writers.{longer, handed}
 use Rattle.cable_run.proofs.plan.write_tail.Goals as goal
 
 pub returns-in_err-write_layout : goal.returns-in_err-write_layout

@@ -28,9 +28,9 @@ returns-in-None-clause-bound g c = λ bytes built told done. absurd (c.in-None.e
 
 pub returns-in-Some-clause-ends : goal.returns-in-Some-clause-ends
 returns-in-Some-clause-ends g c = λ other built.
-    let input = effect g.S.Source.left g.S.Source.faults c.args.input.now c.obey.new.input in
-    let out = effect g.O.Sink.taken g.O.Sink.faults c.args.out.now c.obey.new.out in
-    let note = effect g.E.Sink.taken g.E.Sink.faults c.args.note.now c.end_of.new.note in
+    let input = effect (g.S.Source.state c.args.input.now) (g.S.Source.state c.obey.new.input) in
+    let out = effect (g.O.Sink.state c.args.out.now) (g.O.Sink.state c.obey.new.out) in
+    let note = effect (g.E.Sink.state c.args.note.now) (g.E.Sink.state c.end_of.new.note) in
     ends_as (texts c.args.words.now) c.in-Some.command other input out note c.end_of.result c.in-Some.ensures.command built
     (command_ends c.in-Some.command input out note c.obey.result c.end_of.result c.obey.ensures c.end_of.ensures)
 

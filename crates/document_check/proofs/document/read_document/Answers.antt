@@ -7,16 +7,16 @@ pub returns-in_err-count-clause-refused : goal.returns-in_err-count-clause-refus
 returns-in_err-count-clause-refused g c refusal bytes arcs is told are small =
     let same : c.from_residual-in_err-count.result ≡ Err c.in_err-count.field-0.0 = search rules in
     let made = c.in_ok-checker.ensures in
-    items_refused c.args.site.now c.in_ok-checker.checker (ahead c.args.lines.now.pending (g.S.Source.left c.args.src.now)) (ahead c.begin_document.new.lines.pending (g.S.Source.left c.begin_document.new.src)) c.args.lines.now.lines c.begin_document.new.lines.lines
+    items_refused c.args.site.now c.in_ok-checker.checker (ahead c.args.lines.now (g.S.Source.state c.args.src.now)) (ahead c.begin_document.new.lines (g.S.Source.state c.begin_document.new.src)) c.args.lines.now.lines c.begin_document.new.lines.lines
     c.from_residual-in_err-count.result c.in_err-count.field-0.0 refusal same is made.site made.arcs made.reads c.in_err-count.ensures.refused arcs are bytes told small
 
 pub returns-in_err-claim-clause-refused : goal.returns-in_err-claim-clause-refused
 returns-in_err-claim-clause-refused g c refusal bytes arcs is told are small =
     let same : c.from_residual-in_err-claim.result ≡ Err c.in_err-claim.field-0.0 = search rules in
     let made = c.in_ok-checker.ensures in
-    end_refused c.args.site.now c.in_ok-checker.checker c.feed_items.new.checker (ahead c.args.lines.now.pending (g.S.Source.left c.args.src.now)) (ahead c.begin_document.new.lines.pending (g.S.Source.left c.begin_document.new.src))
-    (ahead c.feed_items.new.lines.pending (g.S.Source.left c.feed_items.new.src)) c.args.lines.now.lines c.begin_document.new.lines.lines c.feed_items.new.lines.lines c.in_ok-count.count
+    end_refused c.args.site.now c.in_ok-checker.checker c.feed_items.new.checker (ahead c.args.lines.now (g.S.Source.state c.args.src.now)) (ahead c.begin_document.new.lines (g.S.Source.state c.begin_document.new.src))
+    (ahead c.feed_items.new.lines (g.S.Source.state c.feed_items.new.src)) c.args.lines.now.lines c.begin_document.new.lines.lines c.feed_items.new.lines.lines c.in_ok-count.count
     c.from_residual-in_err-claim.result c.in_err-claim.field-0.0 refusal same is made.site made.arcs made.reads c.in_ok-count.ensures.fed c.in_err-claim.ensures.refused arcs are bytes told small
 
 pub returns-clause-whole : goal.returns-clause-whole
-returns-clause-whole g c = source_end c.read_end_of_document.new.lines.pending (g.S.Source.left c.read_end_of_document.new.src) c.in_ok-claim.ensures.whole
+returns-clause-whole g c = source_end c.read_end_of_document.new.lines.pending (g.S.Source.state c.read_end_of_document.new.src).bytes c.in_ok-claim.ensures.whole

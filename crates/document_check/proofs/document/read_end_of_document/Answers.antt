@@ -8,15 +8,15 @@ use Rattle.document_check.proofs.document.read_end_of_document.Goals as goal
 pub returns-in-Err-clause-refused : goal.returns-in-Err-clause-refused
 returns-in-Err-clause-refused g c =
     pass_refusal (Unit {0}) c.in-Err.fault c.reading_fault.result c.reading_fault.ensures _ _
-    (λ refusal d. refused_cable c.args.site.now c.args.checker.now.arcs c.args.checker.now.budget c.args.count c.args.checker.now.kept (ahead c.args.lines.now.pending (g.S.Source.left c.args.src.now)) c.args.lines.now.lines refusal d)
+    (λ refusal d. refused_cable c.args.site.now c.args.checker.now.arcs c.args.checker.now.budget c.args.count c.args.checker.now.kept (ahead c.args.lines.now (g.S.Source.state c.args.src.now)) c.args.lines.now.lines refusal d)
     c.in-Err.ensures.refused
 
 pub returns-in_err-claim-clause-refused : goal.returns-in_err-claim-clause-refused
 returns-in_err-claim-clause-refused g c =
     let s = c.args.site.now in
     let b = c.args.checker.now in
-    let before = ahead c.args.lines.now.pending (g.S.Source.left c.args.src.now) in
-    let middle = ahead c.read_layout.new.lines.pending (g.S.Source.left c.read_layout.new.src) in
+    let before = ahead c.args.lines.now (g.S.Source.state c.args.src.now) in
+    let middle = ahead c.read_layout.new.lines (g.S.Source.state c.read_layout.new.src) in
     let cables = c.read_layout.new.into in
     let same : c.from_residual.result ≡ Err c.in_err-claim.field-0.0 = search rules in
     err_refused c.from_residual.result c.in_err-claim.field-0.0 _ same
@@ -29,10 +29,10 @@ pub returns-in-Ok-read_close-clause-accepted : goal.returns-in-Ok-read_close-cla
 returns-in-Ok-read_close-clause-accepted g c first start are budget h =
     let s = c.args.site.now in
     let b = c.args.checker.now in
-    let before = ahead c.args.lines.now.pending (g.S.Source.left c.args.src.now) in
-    let middle = ahead c.read_layout.new.lines.pending (g.S.Source.left c.read_layout.new.src) in
-    let later = ahead c.judge_claim.new.lines.pending (g.S.Source.left c.judge_claim.new.src) in
-    let after = ahead c.read_close.new.lines.pending (g.S.Source.left c.read_close.new.src) in
+    let before = ahead c.args.lines.now (g.S.Source.state c.args.src.now) in
+    let middle = ahead c.read_layout.new.lines (g.S.Source.state c.read_layout.new.src) in
+    let later = ahead c.judge_claim.new.lines (g.S.Source.state c.judge_claim.new.src) in
+    let after = ahead c.read_close.new.lines (g.S.Source.state c.read_close.new.src) in
     let cables = c.read_layout.new.into in
     accepted_end s b.arcs b.budget c.args.count b.kept cables c.in_ok-claim.claim later after c.judge_claim.new.lines.lines c.read_close.new.lines.lines first start are budget c.in-Ok.ensures.size (c.in-Ok.ensures.in_order refl)
     c.in_ok-claim.ensures.agrees c.in_ok-claim.ensures.range
@@ -44,9 +44,9 @@ pub returns-in-Err-read_close-clause-refused : goal.returns-in-Err-read_close-cl
 returns-in-Err-read_close-clause-refused g c =
     let s = c.args.site.now in
     let b = c.args.checker.now in
-    let before = ahead c.args.lines.now.pending (g.S.Source.left c.args.src.now) in
-    let middle = ahead c.read_layout.new.lines.pending (g.S.Source.left c.read_layout.new.src) in
-    let later = ahead c.judge_claim.new.lines.pending (g.S.Source.left c.judge_claim.new.src) in
+    let before = ahead c.args.lines.now (g.S.Source.state c.args.src.now) in
+    let middle = ahead c.read_layout.new.lines (g.S.Source.state c.read_layout.new.src) in
+    let later = ahead c.judge_claim.new.lines (g.S.Source.state c.judge_claim.new.src) in
     let cables = c.read_layout.new.into in
     pass_refusal (Unit {0}) c.in-Err-read_close.fault c.reading_fault-in-Err-read_close.result c.reading_fault-in-Err-read_close.ensures _ _
     (λ refusal d first start h.

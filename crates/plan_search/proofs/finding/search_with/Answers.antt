@@ -17,7 +17,7 @@ use Rattle.plan_search.proofs.finding.search_with.Goals as goal
 
 -- the first rows are written
 told : (g : Over) (c : In_ok-write_rows g)
-    → Tells {A = Unit {0}} (Ok tt) (g.O.Sink.taken c.args.out.now) (g.O.Sink.taken c.write_rows.new.out) (g.O.Sink.faults c.args.out.now) (g.O.Sink.faults c.write_rows.new.out)
+    → Tells {A = Unit {0}} (Ok tt) (g.O.Sink.state c.args.out.now) (g.O.Sink.state c.write_rows.new.out)
     (concat (map item_lines (first_core c.args.site.now c.args.lanes).items))
 told g c =
     let first = first_core c.args.site.now c.args.lanes in
@@ -25,8 +25,7 @@ told g c =
 
 -- the rounds stopped early
 stopped : (g : Over) (c : After-from_residual-in_err-work_all g)
-    → IsStopped c.from_residual-in_err-work_all.result c.args.site.now c.args.arcs.now c.args.search.now.progress.budget (g.O.Sink.taken c.args.out.now) (g.O.Sink.taken c.work_all.new.out)
-    (g.O.Sink.faults c.args.out.now) (g.O.Sink.faults c.work_all.new.out)
+    → IsStopped c.from_residual-in_err-work_all.result c.args.site.now c.args.arcs.now c.args.search.now.progress.budget (g.O.Sink.state c.args.out.now) (g.O.Sink.state c.work_all.new.out)
 stopped g c =
     let lanes = c.args.lanes in
     let first = first_core c.args.site.now lanes in
@@ -40,7 +39,7 @@ stopped g c =
 -- the rounds came to their end
 all : (g : Over) (c : In_ok-work_all g)
     → IsWhole c.args.site.now c.args.arcs.now c.args.search.now.progress.budget c.args.lanes c.in_ok-start.start (core (first_core c.args.site.now c.args.lanes).items c.begin.new.search)
-    (λ (items : List Item). core items c.work_all.new.search) (g.O.Sink.taken c.args.out.now) (g.O.Sink.taken c.work_all.new.out) (g.O.Sink.faults c.args.out.now) (g.O.Sink.faults c.work_all.new.out)
+    (λ (items : List Item). core items c.work_all.new.search) (g.O.Sink.state c.args.out.now) (g.O.Sink.state c.work_all.new.out)
 all g c =
     let s = c.args.site.now in
     let n = c.args.search.now.progress.budget in
@@ -63,21 +62,21 @@ returns-in_err-write_rows-clause-part g c =
     let old = c.args.search.now in
     let first = first_core s c.args.lanes in
     let valid = subst IsValid c.requires.site c.requires.running.searching.valid in
-    part-told c.from_residual.result s c.args.arcs.now old.progress.budget first _ _ _ _ (first-core s c.args.arcs.now old.progress.budget c.args.lanes valid)
+    part-told c.from_residual.result s c.args.arcs.now old.progress.budget first _ _ (first-core s c.args.arcs.now old.progress.budget c.args.lanes valid)
     (failed-first s c.args.lanes c.pool.result.now old.progress.pool (core first.items old) c.pool.ensures refl c.requires.first c.from_residual.ensures.0 c.in_err-write_rows.ensures)
 
 pub returns-in_err-start-clause-part : goal.returns-in_err-start-clause-part
 returns-in_err-start-clause-part g c =
     let s = c.args.site.now in
     let valid = subst IsValid c.requires.site c.requires.running.searching.valid in
-    part-whole c.from_residual-in_err-start.result s c.args.arcs.now c.args.search.now.progress.budget (first_core s c.args.lanes) _ _ _ _
+    part-whole c.from_residual-in_err-start.result s c.args.arcs.now c.args.search.now.progress.budget (first_core s c.args.lanes) _ _
     (first-core s c.args.arcs.now c.args.search.now.progress.budget c.args.lanes valid) (told g (goal.at.returns-in_err-start-clause-part g c).In_ok-write_rows)
 
 pub returns-in_err-begin-clause-part : goal.returns-in_err-begin-clause-part
 returns-in_err-begin-clause-part g c =
     let s = c.args.site.now in
     let valid = subst IsValid c.requires.site c.requires.running.searching.valid in
-    part-whole c.from_residual-in_err-begin.result s c.args.arcs.now c.args.search.now.progress.budget (first_core s c.args.lanes) _ _ _ _
+    part-whole c.from_residual-in_err-begin.result s c.args.arcs.now c.args.search.now.progress.budget (first_core s c.args.lanes) _ _
     (first-core s c.args.arcs.now c.args.search.now.progress.budget c.args.lanes valid) (told g (goal.at.returns-in_err-begin-clause-part g c).In_ok-write_rows)
 
 pub work_all-requires-clause-idle : goal.work_all-requires-clause-idle
@@ -112,7 +111,7 @@ conclude-requires-clause-ended g c =
 pub returns-in_err-conclude-clause-part : goal.returns-in_err-conclude-clause-part
 returns-in_err-conclude-clause-part g c =
     let ended = all g (goal.at.returns-in_err-conclude-clause-part g c).In_ok-work_all in
-    part-whole c.from_residual-in_err-conclude.result c.args.site.now c.args.arcs.now c.args.search.now.progress.budget (core ended.items c.work_all.new.search) _ _ _ _ ended.has_ended.is_core ended.told
+    part-whole c.from_residual-in_err-conclude.result c.args.site.now c.args.arcs.now c.args.search.now.progress.budget (core ended.items c.work_all.new.search) _ _ ended.has_ended.is_core ended.told
 
 pub returns-in_err-conclude-clause-count : goal.returns-in_err-conclude-clause-count
 returns-in_err-conclude-clause-count g c = (all g (goal.at.returns-in_err-conclude-clause-count g c).In_ok-work_all).told.count

@@ -8,7 +8,7 @@ use Rattle.plan_search.proofs.Stepping.{keeps-then, advances-moved, takes-first,
 use Rattle.plan_search.proofs.rounds.round.Goals as goal
 
 pub returns-in_err-take_all-clause-advances : goal.returns-in_err-take_all-clause-advances
-returns-in_err-take_all-clause-advances g c = λ items. advances-memory c.from_residual.result _ _ _ _ _ _ _ _ c.from_residual.ensures.0 c.from_residual.ensures.1
+returns-in_err-take_all-clause-advances g c = λ items. advances-memory c.from_residual.result _ _ _ _ _ _ _ c.from_residual.ensures.0 c.from_residual.ensures.1
 
 pub loop-lane-init : goal.loop-lane-init
 loop-lane-init g c = record {
@@ -21,7 +21,7 @@ loop-lane-init g c = record {
   advances = λ items.
       let old = c.args.search.now in
       let now : Core = core items c.take_all.new.search in
-      advances-silent tt old.site old.arcs old.progress.budget (core items old) _ (λ more. core more c.take_all.new.search) _ _ (map Take (numbers_below c.args.lanes)) now
+      advances-silent tt old.site old.arcs old.progress.budget (core items old) _ (λ more. core more c.take_all.new.search) _ (map Take (numbers_below c.args.lanes)) now
       (c.in_ok-take_all.ensures.takes items) refl (takes-first old.site old.arcs old.progress.budget c.args.lanes (core items old) now (c.in_ok-take_all.ensures.takes items)) refl;
 }
 

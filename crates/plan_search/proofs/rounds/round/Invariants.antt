@@ -14,5 +14,5 @@ invariant-loop-lane g l = record {
   floored : IsFloored l.fn.search.site l.fn.search.progress.tree.nodes → IsFloored l.fn.search.site l.search.progress.tree.nodes;
   advances : (items : List Item) → Advances {A = Unit {0}} (Ok tt) l.fn.search.site l.fn.search.arcs l.fn.search.progress.budget (core items l.fn.search)
       (Runs l.fn.search.site l.fn.search.arcs l.fn.search.progress.budget (core items l.fn.search) (map Take (numbers_below l.lanes) ++ map Work (numbers_below l.lane))) (λ more. core more l.search)
-      (g.O.Sink.taken l.fn.out) (g.O.Sink.taken l.out) (g.O.Sink.faults l.fn.out) (g.O.Sink.faults l.out);
+      (g.O.Sink.state l.fn.out) (g.O.Sink.state l.out);
 }

@@ -20,7 +20,7 @@ loop-alloc-init g c = record {
   floored = λ h. h;
   advances = λ items.
       let old = c.args.search.now in
-      advances-silent tt old.site old.arcs old.progress.budget (core items old) _ (λ more. core more old) _ _ [] (core items old) refl refl (0, refl) refl;
+      advances-silent tt old.site old.arcs old.progress.budget (core items old) _ (λ more. core more old) _ [] (core items old) refl refl (0, refl) refl;
 }
 
 pub loop-alloc-smaller : goal.loop-alloc-smaller

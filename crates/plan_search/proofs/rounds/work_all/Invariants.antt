@@ -14,7 +14,7 @@ invariant-loop-alloc g l = record {
   floored : IsFloored l.initial.search.site l.initial.search.progress.tree.nodes → IsFloored l.initial.search.site l.search.progress.tree.nodes;
   advances : (items : List Item) → Advances {A = Unit {0}} (Ok tt) l.initial.search.site l.initial.search.arcs l.initial.search.progress.budget (core items l.initial.search)
       (λ after. (rounds : ℕ) × AreRounds l.initial.search.site l.initial.search.arcs l.initial.search.progress.budget l.lanes rounds (core items l.initial.search) after) (λ more. core more l.search)
-      (g.O.Sink.taken l.initial.out) (g.O.Sink.taken l.out) (g.O.Sink.faults l.initial.out) (g.O.Sink.faults l.out);
+      (g.O.Sink.state l.initial.out) (g.O.Sink.state l.out);
 }
 
 abbrev pub decreases-loop-alloc : goal.decreases-loop-alloc

@@ -6,7 +6,7 @@ use Rattle.plan_search.proofs.Stepping.{advances-step, advances-step-failed}
 use Rattle.plan_search.proofs.rounds.work_lane.Goals as goal
 
 pub returns-in_err-step-clause-advances : goal.returns-in_err-step-clause-advances
-returns-in_err-step-clause-advances g c = λ items. advances-memory c.from_residual.result _ _ _ _ _ _ _ _ c.from_residual.ensures.0 c.from_residual.ensures.1
+returns-in_err-step-clause-advances g c = λ items. advances-memory c.from_residual.result _ _ _ _ _ _ _ c.from_residual.ensures.0 c.from_residual.ensures.1
 
 pub write_step-requires : goal.write_step-requires
 write_step-requires g c = record { worked = did-worked _ _ _ _ c.args.lane _ c.in_ok-step.step c.in_ok-step.ensures.did c.in_ok-step.ensures.lists }

@@ -1,5 +1,5 @@
 use Rattle.cable_definitions.specs.Text.{cable_line}
-use Rattle.site_text.proofs.Writers.{wrote_part, wrote_more}
+use Rattle.cable_text.proofs.Writers.{wrote_part, wrote_more}
 use Rattle.proof_lines.proofs.write.push_cables.Goals as goal
 
 pub returns-in_err-push_cable : goal.returns-in_err-push_cable

@@ -7,5 +7,5 @@ use Rattle.proof_lines.proofs.write.push_cables.Given as goal
 
 abbrev pub invariant-loop-cable : goal.invariant-loop-cable
 invariant-loop-cable g l =
-    Writes {A = Unit {0}} {E = Failed} (Ok tt) (g.O.Sink.taken l.initial.out) (g.O.Sink.taken l.out) (g.O.Sink.faults l.initial.out) (g.O.Sink.faults l.out)
+    Writes {A = Unit {0}} {E = Failed} (Ok tt) (g.O.Sink.state l.initial.out) (g.O.Sink.state l.out)
     (concat (map (cable_line l.site) (take l.cable-index l.cables)))

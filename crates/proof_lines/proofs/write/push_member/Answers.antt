@@ -5,7 +5,7 @@ use Rattle.std.specs.Fmt.{decimal}
 use Rattle.std.proofs.lemmas.Int.{ints, to_z-of_z}
 use Rattle.cable_definitions.specs.Text.{number}
 use Rattle.cable_text.proofs.Writing.{Writes-then}
-use Rattle.site_text.proofs.Writers.{stopped, written_as}
+use Rattle.cable_text.proofs.Writers.{stopped, written_as}
 use Rattle.proof_lines.proofs.write.push_member.Goals as goal
 
 pub returns-in_err-push : goal.returns-in_err-push

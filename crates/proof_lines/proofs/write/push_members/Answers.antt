@@ -1,5 +1,5 @@
 use Rattle.proof_lines.specs.Written.{spaced_number}
-use Rattle.site_text.proofs.Writers.{wrote_part, wrote_more}
+use Rattle.cable_text.proofs.Writers.{wrote_part, wrote_more}
 use Rattle.proof_lines.proofs.write.push_members.Goals as goal
 
 pub returns-in_err-push_member : goal.returns-in_err-push_member

@@ -7,5 +7,5 @@ use Rattle.proof_lines.proofs.write.push_members.Given as goal
 
 abbrev pub invariant-loop-member : goal.invariant-loop-member
 invariant-loop-member g l =
-    Writes {A = Unit {0}} {E = Failed} (Ok tt) (g.O.Sink.taken l.initial.out) (g.O.Sink.taken l.out) (g.O.Sink.faults l.initial.out) (g.O.Sink.faults l.out)
+    Writes {A = Unit {0}} {E = Failed} (Ok tt) (g.O.Sink.state l.initial.out) (g.O.Sink.state l.out)
     (concat (map spaced_number (take l.member-index l.members)))

@@ -4,7 +4,7 @@ use Rattle.cable_text.proofs.Writing.{Writes-then}
 use Rattle.cable_definitions.specs.Text.{kind_word}
 use Rattle.proof_lines.specs.Written.{spaced_number}
 use Rattle.proof_lines.proofs.RowLine.{row_parts}
-use Rattle.site_text.proofs.Writers.{stopped, written_as}
+use Rattle.cable_text.proofs.Writers.{stopped, written_as}
 use Rattle.proof_lines.proofs.write.push_row.Goals as goal
 
 pub returns-in_err-push : goal.returns-in_err-push

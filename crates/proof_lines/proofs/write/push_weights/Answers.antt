@@ -1,5 +1,5 @@
 use Rattle.cable_definitions.specs.Text.{weight_line}
-use Rattle.site_text.proofs.Writers.{wrote_part, wrote_more}
+use Rattle.cable_text.proofs.Writers.{wrote_part, wrote_more}
 use Rattle.proof_lines.proofs.write.push_weights.Goals as goal
 
 pub returns-in_err-push_weight : goal.returns-in_err-push_weight

@@ -7,5 +7,5 @@ use Rattle.proof_lines.proofs.write.push_weights.Given as goal
 
 abbrev pub invariant-loop-weight : goal.invariant-loop-weight
 invariant-loop-weight g l =
-    Writes {A = Unit {0}} {E = Failed} (Ok tt) (g.O.Sink.taken l.initial.out) (g.O.Sink.taken l.out) (g.O.Sink.faults l.initial.out) (g.O.Sink.faults l.out)
+    Writes {A = Unit {0}} {E = Failed} (Ok tt) (g.O.Sink.state l.initial.out) (g.O.Sink.state l.out)
     (concat (map weight_line (take l.weight-index l.weights)))

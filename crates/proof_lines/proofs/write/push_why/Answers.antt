@@ -1,6 +1,6 @@
 use Rattle.std.proofs.Common.{ap, codes, ◌∷◌}
 use Rattle.cable_definitions.specs.Text.{line, why_words}
-use Rattle.site_text.proofs.Writers.{written_as}
+use Rattle.cable_text.proofs.Writers.{written_as}
 use Rattle.proof_lines.proofs.write.push_why.Goals as goal
 
 pub returns-in-Power : goal.returns-in-Power

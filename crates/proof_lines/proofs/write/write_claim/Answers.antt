@@ -1,7 +1,7 @@
 use Rattle.std.proofs.Common.{codes, [], ◌∷◌}
 use Rattle.cable_text.proofs.Writing.{Writes-then}
 use Rattle.cable_definitions.specs.Text.{line}
-use Rattle.site_text.proofs.Writers.{longer, handed}
+use Rattle.cable_text.proofs.Writers.{longer, handed}
 use Rattle.proof_lines.proofs.write.write_claim.Goals as goal
 
 pub returns-in_err-write_verdict : goal.returns-in_err-write_verdict

@@ -2,7 +2,7 @@ use Rattle.std.proofs.Common.{map}
 use Rattle.std.specs.List.{concat}
 use Rattle.cable_text.proofs.Writing.{Writes-then}
 use Rattle.cable_definitions.specs.Text.{cable_line}
-use Rattle.site_text.proofs.Writers.{longer, handed}
+use Rattle.cable_text.proofs.Writers.{longer, handed}
 use Rattle.proof_lines.proofs.write.write_layout.Goals as goal
 
 pub returns-in_err-push_header : goal.returns-in_err-push_header

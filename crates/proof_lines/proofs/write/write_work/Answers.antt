@@ -3,7 +3,7 @@ use Rattle.std.specs.List.{concat}
 use Rattle.std.specs.Fmt.{decimal}
 use Rattle.cable_text.proofs.Writing.{Writes-then}
 use Rattle.cable_definitions.specs.Text.{line, weight_line, act_line}
-use Rattle.site_text.proofs.Writers.{longer, handed, written_as}
+use Rattle.cable_text.proofs.Writers.{longer, handed, written_as}
 use Rattle.proof_lines.proofs.write.write_work.Goals as goal
 
 pub returns-in_err-push_node : goal.returns-in_err-push_node

@@ -6,9 +6,9 @@ use Rattle.proof_text.proofs.items.read_weights.Given as goal
 
 abbrev pub invariant-loop : goal.invariant-loop
 invariant-loop g l = record {
-  reads : ReadsWeights (ahead l.initial.lines.pending (g.S.Source.left l.initial.src)) (ahead l.lines.pending (g.S.Source.left l.src)) l.weights;
+  reads : ReadsWeights (ahead l.initial.lines (g.S.Source.state l.initial.src)) (ahead l.lines (g.S.Source.state l.src)) l.weights;
   size : length l.weights ≡ l.counter;
   lines : line_number_after l.lines.lines 1 ≡ line_number_after l.initial.lines.lines (l.counter + 1);
   none_kept : l.lines.kept ≡ None;
-  faults : g.S.Source.faults l.initial.src ≤ g.S.Source.faults l.src;
+  faults : (g.S.Source.state l.initial.src).faults ≤ (g.S.Source.state l.src).faults;
 }

@@ -3,20 +3,20 @@ use Rattle.cable_definitions.specs.Text.{line}
 use Rattle.cable_definitions.specs.Refusal.{EndLine, AtLast, Past}
 use Rattle.cable_text.specs.Lines.{ahead}
 use Rattle.line_words.specs.Words.{held}
-use Rattle.proof_text.proofs.Streams.{goes_one, refused_here, line_given}
+use Rattle.proof_text.proofs.Streams.{refused_line, goes_one, refused_here, line_given}
 use Rattle.proof_text.proofs.reading.read_last.Goals as goal
 
 pub returns-in-Ok-clause-reads : goal.returns-in-Ok-clause-reads
 returns-in-Ok-clause-reads g c = λ s r e.
-    goes_one s r AtLast (ahead c.args.lines.now.pending (g.S.Source.left c.args.src.now)) (ahead c.next_line.new.lines.pending (g.S.Source.left c.next_line.new.src)) c.next_line.new.lines.text c.text.result.now (held c.words_of.result) EndLine (record r { phase = Past })
-    c.in_default.ensures.found c.text.ensures c.words_of.ensures c.in-Ok.ensures.good e tt (λ arcs cause f. f) (λ arcs. refl)
+    goes_one s r AtLast (ahead c.args.lines.now (g.S.Source.state c.args.src.now)) (ahead c.next_line.new.lines (g.S.Source.state c.next_line.new.src)) c.next_line.new.lines.text c.text.result.now (held c.words_of.result) EndLine (record r { phase = Past })
+    c.in_ok-next_line.ensures.found c.text.ensures c.words_of.ensures c.in-Ok.ensures.good e tt (λ arcs cause f. f) (λ arcs. refl)
 
 pub returns-in-Ok-clause-text : goal.returns-in-Ok-clause-text
 returns-in-Ok-clause-text g c =
-    line_given AtLast (ahead c.args.lines.now.pending (g.S.Source.left c.args.src.now)) (ahead c.next_line.new.lines.pending (g.S.Source.left c.next_line.new.src)) c.next_line.new.lines.text c.text.result.now (held c.words_of.result) EndLine (line (codes "end" ∷ codes "document" ∷ []))
-    c.in_default.ensures.found c.text.ensures c.words_of.ensures c.in-Ok.ensures.good.standing refl
+    line_given AtLast (ahead c.args.lines.now (g.S.Source.state c.args.src.now)) (ahead c.next_line.new.lines (g.S.Source.state c.next_line.new.src)) c.next_line.new.lines.text c.text.result.now (held c.words_of.result) EndLine (line (codes "end" ∷ codes "document" ∷ []))
+    c.in_ok-next_line.ensures.found c.text.ensures c.words_of.ensures c.in-Ok.ensures.good.standing refl
 
-pub returns-in-Err-end_in-clause-refused : goal.returns-in-Err-end_in-clause-refused
-returns-in-Err-end_in-clause-refused g c = rw c.refused.ensures (λ s r e.
-    refused_here s r AtLast (ahead c.args.lines.now.pending (g.S.Source.left c.args.src.now)) (ahead c.next_line.new.lines.pending (g.S.Source.left c.next_line.new.src)) c.next_line.new.lines.text c.text.result.now (held c.words_of.result) c.args.lines.now.lines c.next_line.new.lines.number c.in-Err-end_in.cause
-    c.in_default.ensures.found c.text.ensures c.words_of.ensures c.in-Err-end_in.ensures.bad e c.next_line.ensures.number)
+pub returns-in-Err-clause-line : goal.returns-in-Err-clause-line
+returns-in-Err-clause-line g c = rw c.refused.ensures (refused_line c.next_line.ensures.line.count (λ s r e.
+    refused_here s r AtLast (ahead c.args.lines.now (g.S.Source.state c.args.src.now)) (ahead c.next_line.new.lines (g.S.Source.state c.next_line.new.src)) c.next_line.new.lines.text c.text.result.now (held c.words_of.result) c.args.lines.now.lines c.next_line.new.lines.number c.in-Err.cause
+    c.in_ok-next_line.ensures.found c.text.ensures c.words_of.ensures c.in-Err.ensures.bad e c.next_line.ensures.number))

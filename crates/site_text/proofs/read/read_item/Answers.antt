@@ -16,8 +16,8 @@ returns-in_err-next_text-clause-refused g c = λ code place broken is.
 pub returns-in-Err-clause-refused : goal.returns-in-Err-clause-refused
 returns-in-Err-clause-refused g c =
     let d = c.args.builder.now in
-    let before = ahead c.args.lines.now.pending (g.S.Source.left c.args.src.now) in
-    let after = ahead c.next_text.new.lines.pending (g.S.Source.left c.next_text.new.src) in
+    let before = ahead c.args.lines.now (g.S.Source.state c.args.src.now) in
+    let after = ahead c.next_text.new.lines (g.S.Source.state c.next_text.new.src) in
     let P : SiteCode → ℕ → Bool → Type 0 = λ x y z. Faults d before c.args.lines.now.lines x y z in
     build_fault P c.in-Err.fault c.number.result c.fault_of.result c.fault_of.ensures
     (λ code e. text_fault d before after c.args.lines.now c.next_text.new.lines c.text.result.now code c.number.result c.in_ok-next_text.ensures.reads c.text.ensures (c.in-Err.ensures.refused code (ap Err e)) c.number.ensures)

@@ -15,8 +15,8 @@ returns-in_err-next_text-clause-refused g c = λ code place broken is.
 
 pub returns-in-Err-clause-refused : goal.returns-in-Err-clause-refused
 returns-in-Err-clause-refused g c = λ code place broken is.
-    let before = ahead c.args.lines.now.pending (g.S.Source.left c.args.src.now) in
-    let after = ahead c.next_text.new.lines.pending (g.S.Source.left c.next_text.new.src) in
+    let before = ahead c.args.lines.now (g.S.Source.state c.args.src.now) in
+    let after = ahead c.next_text.new.lines (g.S.Source.state c.next_text.new.src) in
     let P : SiteCode → ℕ → Bool → Type 0 = λ x y z. Faults (versioned c.args.version) before c.args.lines.now.lines x y z in
     fault_parts P c.refused.result c.in-Err.code code c.number.result place false broken c.refused.ensures is
     (text_fault (versioned c.args.version) before after c.args.lines.now c.next_text.new.lines c.text.result.now c.in-Err.code c.number.result c.in_ok-next_text.ensures.reads c.text.ensures c.in-Err.ensures.code c.number.ensures)

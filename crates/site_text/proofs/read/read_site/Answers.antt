@@ -14,7 +14,7 @@ use Rattle.site_text.proofs.read.read_site.Goals as goal
 
 pub returns-in_err-version-clause-refused : goal.returns-in_err-version-clause-refused
 returns-in_err-version-clause-refused g c = λ bytes code place broken is small refused.
-    let before = ahead c.args.lines.now.pending (g.S.Source.left c.args.src.now) in
+    let before = ahead c.args.lines.now (g.S.Source.state c.args.src.now) in
     let old = c.args.lines.now.lines in
     let p = err_from_is_err_and c.from_residual.result c.from_residual.ensures.1 in
     let f : p.0 ≡ Refused code place broken = cc (p.1, refused) in
@@ -22,8 +22,8 @@ returns-in_err-version-clause-refused g c = λ bytes code place broken is small 
 
 pub returns-in_err-mode-clause-refused : goal.returns-in_err-mode-clause-refused
 returns-in_err-mode-clause-refused g c = λ bytes code place broken is small refused.
-    let before = ahead c.args.lines.now.pending (g.S.Source.left c.args.src.now) in
-    let mid = ahead c.read_version.new.lines.pending (g.S.Source.left c.read_version.new.src) in
+    let before = ahead c.args.lines.now (g.S.Source.state c.args.src.now) in
+    let mid = ahead c.read_version.new.lines (g.S.Source.state c.read_version.new.src) in
     let old = c.args.lines.now.lines in
     let now = c.read_version.new.lines.lines in
     let v = c.in_ok-version.version in
@@ -34,9 +34,9 @@ returns-in_err-mode-clause-refused g c = λ bytes code place broken is small ref
 
 pub items-init : goal.items-init
 items-init g c =
-    let before = ahead c.args.lines.now.pending (g.S.Source.left c.args.src.now) in
-    let mid = ahead c.read_version.new.lines.pending (g.S.Source.left c.read_version.new.src) in
-    let after = ahead c.read_mode.new.lines.pending (g.S.Source.left c.read_mode.new.src) in
+    let before = ahead c.args.lines.now (g.S.Source.state c.args.src.now) in
+    let mid = ahead c.read_version.new.lines (g.S.Source.state c.read_version.new.src) in
+    let after = ahead c.read_mode.new.lines (g.S.Source.state c.read_mode.new.src) in
     let old = c.args.lines.now.lines in
     let now = c.read_version.new.lines.lines in
     let new = c.read_mode.new.lines.lines in
@@ -55,24 +55,24 @@ items-init g c =
 
 pub returns-in_err-read_item-clause-refused : goal.returns-in_err-read_item-clause-refused
 returns-in_err-read_item-clause-refused g c = λ bytes code place broken is small refused.
-    let before = ahead c.args.lines.now.pending (g.S.Source.left c.args.src.now) in
-    let mid = ahead c.items.lines.pending (g.S.Source.left c.items.src) in
+    let before = ahead c.args.lines.now (g.S.Source.state c.args.src.now) in
+    let mid = ahead c.items.lines (g.S.Source.state c.items.src) in
     let p = err_from_is_err_and c.from_residual-in_err-read_item.result c.from_residual-in_err-read_item.ensures.1 in
     let f : p.0 ≡ Refused code place broken = cc (p.1, refused) in
     read_fault c.items.builder before mid bytes c.args.lines.now.lines c.items.lines.lines code place broken is small c.items.invariant.read (c.in_err-read_item.ensures.refused code place broken (ap Err (sym p.2 ∙ f)))
 
 pub items-smaller : goal.items-smaller
 items-smaller g c =
-    let before = ahead c.args.lines.now.pending (g.S.Source.left c.args.src.now) in
-    let mid = ahead c.items.lines.pending (g.S.Source.left c.items.src) in
-    let after = ahead c.read_item.new.lines.pending (g.S.Source.left c.read_item.new.src) in
+    let before = ahead c.args.lines.now (g.S.Source.state c.args.src.now) in
+    let mid = ahead c.items.lines (g.S.Source.state c.items.src) in
+    let after = ahead c.read_item.new.lines (g.S.Source.state c.read_item.new.src) in
     fewer_left c.items.builder c.read_item.new.builder before mid after c.args.lines.now.lines c.items.lines.lines c.read_item.new.lines.lines c.items.invariant.read (c.in_ok-read_item.ensures.added (ap Ok c.in-Added.is))
 
 pub items-preserved : goal.items-preserved
 items-preserved g c =
-    let before = ahead c.args.lines.now.pending (g.S.Source.left c.args.src.now) in
-    let mid = ahead c.items.lines.pending (g.S.Source.left c.items.src) in
-    let after = ahead c.read_item.new.lines.pending (g.S.Source.left c.read_item.new.src) in
+    let before = ahead c.args.lines.now (g.S.Source.state c.args.src.now) in
+    let mid = ahead c.items.lines (g.S.Source.state c.items.src) in
+    let after = ahead c.read_item.new.lines (g.S.Source.state c.read_item.new.src) in
     let d = c.items.builder in
     let e = c.read_item.new.builder in
     let reads = c.in_ok-read_item.ensures.added (ap Ok c.in-Added.is) in
@@ -86,17 +86,17 @@ items-preserved g c =
     }
 
 -- the line of the end
-end_line : (g : Over) (c : After-finish g) → ReadsItemLine c.items.builder.site.version TheEnd (ahead c.items.lines.pending (g.S.Source.left c.items.src)) (ahead c.read_item.new.lines.pending (g.S.Source.left c.read_item.new.src)) c.items.lines.lines c.read_item.new.lines.lines
+end_line : (g : Over) (c : After-finish g) → ReadsItemLine c.items.builder.site.version TheEnd (ahead c.items.lines (g.S.Source.state c.items.src)) (ahead c.read_item.new.lines (g.S.Source.state c.read_item.new.src)) c.items.lines.lines c.read_item.new.lines.lines
 end_line g c =
-    let P = λ (v : Version). ReadsItemLine v TheEnd (ahead c.items.lines.pending (g.S.Source.left c.items.src)) (ahead c.read_item.new.lines.pending (g.S.Source.left c.read_item.new.src)) c.items.lines.lines c.read_item.new.lines.lines in
+    let P = λ (v : Version). ReadsItemLine v TheEnd (ahead c.items.lines (g.S.Source.state c.items.src)) (ahead c.read_item.new.lines (g.S.Source.state c.read_item.new.src)) c.items.lines.lines c.read_item.new.lines.lines in
     subst P c.items.invariant.version (c.in_ok-read_item.ensures.ended (ap Ok c.in-Ended.is))
 
 -- what holds of a site that was read
-ended : (g : Over) (c : After-finish g) → IfOk c.finish.result (λ s. ReadsSite s (ahead c.args.lines.now.pending (g.S.Source.left c.args.src.now)) (ahead c.read_item.new.lines.pending (g.S.Source.left c.read_item.new.src)) c.args.lines.now.lines c.read_item.new.lines.lines)
+ended : (g : Over) (c : After-finish g) → IfOk c.finish.result (λ s. ReadsSite s (ahead c.args.lines.now (g.S.Source.state c.args.src.now)) (ahead c.read_item.new.lines (g.S.Source.state c.read_item.new.src)) c.args.lines.now.lines c.read_item.new.lines.lines)
 ended g c =
-    let before = ahead c.args.lines.now.pending (g.S.Source.left c.args.src.now) in
-    let mid = ahead c.items.lines.pending (g.S.Source.left c.items.src) in
-    let after = ahead c.read_item.new.lines.pending (g.S.Source.left c.read_item.new.src) in
+    let before = ahead c.args.lines.now (g.S.Source.state c.args.src.now) in
+    let mid = ahead c.items.lines (g.S.Source.state c.items.src) in
+    let after = ahead c.read_item.new.lines (g.S.Source.state c.read_item.new.src) in
     finished c.finish.result c.items.builder c.read_item.new.builder before mid after c.args.lines.now.lines c.items.lines.lines c.read_item.new.lines.lines (c.in_ok-read_item.ensures.unchanged (ap Ok c.in-Ended.is)) c.items.invariant.read (end_line g c) c.finish.ensures.good c.finish.ensures.site
 
 pub returns-in-Ended-clause-text : goal.returns-in-Ended-clause-text
@@ -110,9 +110,9 @@ returns-in-Ended-clause-few g c = of_read c.finish.result (λ s h. h.few) (ended
 
 pub returns-in-Ended-clause-refused : goal.returns-in-Ended-clause-refused
 returns-in-Ended-clause-refused g c = λ bytes code place broken is small refused.
-    let before = ahead c.args.lines.now.pending (g.S.Source.left c.args.src.now) in
-    let mid = ahead c.items.lines.pending (g.S.Source.left c.items.src) in
-    let after = ahead c.read_item.new.lines.pending (g.S.Source.left c.read_item.new.src) in
+    let before = ahead c.args.lines.now (g.S.Source.state c.args.src.now) in
+    let mid = ahead c.items.lines (g.S.Source.state c.items.src) in
+    let after = ahead c.read_item.new.lines (g.S.Source.state c.read_item.new.src) in
     let at = ap Ok c.in-Ended.is in
     end_fault c.items.builder c.read_item.new.builder before mid after bytes c.args.lines.now.lines c.items.lines.lines c.read_item.new.lines.lines c.number.result code place broken is small
     (c.in_ok-read_item.ensures.unchanged at) c.items.invariant.read (end_line g c) (c.number.ensures ∙ c.in_ok-read_item.ensures.number at) (c.finish.ensures.refused code place broken refused)

@@ -6,11 +6,11 @@ use Rattle.site_text.proofs.read.read_site.Given as goal
 
 abbrev pub invariant-items : goal.invariant-items
 invariant-items g l = record {
-  read : HasRead l.builder (ahead l.fn.lines.pending (g.S.Source.left l.fn.src)) (ahead l.lines.pending (g.S.Source.left l.src)) l.fn.lines.lines l.lines.lines;
+  read : HasRead l.builder (ahead l.fn.lines (g.S.Source.state l.fn.src)) (ahead l.lines (g.S.Source.state l.src)) l.fn.lines.lines l.lines.lines;
   version : l.version ≡ l.builder.site.version;
   begun : 2 ≤ l.builder.stage;
   kept : l.lines.kept ≡ None;
-  count : g.S.Source.faults l.fn.src ≤ g.S.Source.faults l.src;
+  count : (g.S.Source.state l.fn.src).faults ≤ (g.S.Source.state l.src).faults;
 }
 
 abbrev pub decreases-items : goal.decreases-items

@@ -2,8 +2,8 @@ use Rattle.std.proofs.Common.{map}
 use Rattle.std.specs.List.{concat}
 use Rattle.cable_text.proofs.Writing.{Writes-then}
 use Rattle.cable_definitions.specs.Text.{corner_line}
-use Rattle.site_text.specs.Line.{field_text}
-use Rattle.site_text.proofs.Writers.{longer, handed, written_as}
+use Rattle.cable_text.specs.Fields.{field_text}
+use Rattle.cable_text.proofs.Writers.{longer, handed, written_as}
 use Rattle.site_text.proofs.SiteLines.{obstacle_text}
 use Rattle.site_text.proofs.write.push_obstacle.Goals as goal
 

@@ -1,5 +1,5 @@
 use Rattle.cable_definitions.specs.Text.{obstacle_lines}
-use Rattle.site_text.proofs.Writers.{wrote_part_of, wrote_more_of}
+use Rattle.cable_text.proofs.Writers.{wrote_part_of, wrote_more_of}
 use Rattle.site_text.proofs.write.push_obstacles.Goals as goal
 
 pub returns-in_err-push_obstacle : goal.returns-in_err-push_obstacle

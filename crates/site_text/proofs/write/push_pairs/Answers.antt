@@ -1,7 +1,7 @@
 use Rattle.std.proofs.Common.{ap, map, sym}
 use Rattle.std.specs.List.{concat}
 use Rattle.cable_definitions.specs.Text.{pair_line}
-use Rattle.site_text.proofs.Writers.{wrote_part, wrote_more, written_as}
+use Rattle.cable_text.proofs.Writers.{wrote_part, wrote_more, written_as}
 use Rattle.site_text.proofs.write.push_pairs.Goals as goal
 
 pub returns-in_err-push_pair : goal.returns-in_err-push_pair

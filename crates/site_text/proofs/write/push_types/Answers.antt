@@ -1,5 +1,5 @@
 use Rattle.cable_definitions.specs.Text.{type_line}
-use Rattle.site_text.proofs.Writers.{wrote_part, wrote_more}
+use Rattle.cable_text.proofs.Writers.{wrote_part, wrote_more}
 use Rattle.site_text.proofs.write.push_types.Goals as goal
 
 pub returns-in_err-push_type : goal.returns-in_err-push_type

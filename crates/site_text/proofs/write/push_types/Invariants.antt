@@ -7,5 +7,5 @@ use Rattle.site_text.proofs.write.push_types.Given as goal
 
 abbrev pub invariant-loop-cable_type : goal.invariant-loop-cable_type
 invariant-loop-cable_type g l =
-    Writes {A = Unit {0}} {E = Failed} (Ok tt) (g.O.Sink.taken l.initial.out) (g.O.Sink.taken l.out) (g.O.Sink.faults l.initial.out) (g.O.Sink.faults l.out)
+    Writes {A = Unit {0}} {E = Failed} (Ok tt) (g.O.Sink.state l.initial.out) (g.O.Sink.state l.out)
     (concat (map (type_line l.version) (take l.cable_type-index l.types)))

@@ -2,7 +2,7 @@ use Rattle.std.proofs.Common.{codes, map, [], ◌∷◌, refl}
 use Rattle.std.specs.List.{concat}
 use Rattle.cable_text.proofs.Writing.{Writes-then}
 use Rattle.cable_definitions.specs.Text.{line, mode_line, type_line, point_line, obstacle_lines, pair_line}
-use Rattle.site_text.proofs.Writers.{longer, handed, written_as}
+use Rattle.cable_text.proofs.Writers.{longer, handed, written_as}
 use Rattle.site_text.proofs.SiteLines.{site_text}
 use Rattle.site_text.proofs.write.write_site.Goals as goal
 

@@ -1,7 +1,7 @@
 -- The bytes that were pulled stand behind those that were pending.
 use Rattle.std.proofs.Common.{◌≡◌, ◌+◌, ◌-◌, length, take, drop, ap, ◌∙◌, arith, length-drop, ◌++◌}
 use Rattle.std.proofs.lemmas.List.{take_at, take-append-le}
-use Rattle.cable_text.specs.Lines.{ahead}
+use Rattle.cable_text.specs.Lines.{to_come}
 use Rattle.cable_text.proofs.buffer.Buffer.fill.Goals as goal
 
 pub returns-clause-bytes : goal.returns-clause-bytes
@@ -18,4 +18,4 @@ returns-clause-bytes g c =
     let view = ap (λ s. s.pending) c.self.view_is in
     let front = ap (take e) (c.deref_mut.ensures.value ∙ c.rotate_left.ensures.items)
     ∙ take-append-le e (drop b.start b.bytes.items) (take b.start b.bytes.items) (omega (arith, length-drop b.start b.bytes.items, v.0, v.4)) ∙ view in
-    rw (all, sum) (c.in_ok-count.ensures.bytes ∙ ap (λ xs. ahead xs (g.S.Source.left c.args.src.now)) front)
+    rw (all, sum) (c.in_ok-count.ensures.bytes ∙ ap (λ xs. to_come xs (g.S.Source.state c.args.src.now).bytes) front)

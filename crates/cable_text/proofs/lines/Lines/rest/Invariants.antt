@@ -1,13 +1,13 @@
 -- The bytes so far and those to come are the bytes that were to come at the start.
 use Rattle.std.proofs.Common.{◌≡◌, ◌+◌, ◌-◌, ◌≤◌, length, ◌++◌}
-use Rattle.cable_text.specs.Lines.{ahead}
+use Rattle.cable_text.specs.Lines.{to_come}
 use Rattle.cable_text.proofs.lines.Lines.rest.Given as goal
 
 abbrev pub invariant-pieces : goal.invariant-pieces
 invariant-pieces g l = record {
-  bytes : ahead (l.bytes.items ++ l.buffer.pending) (g.S.Source.left l.src) ≡ ahead l.fn.self.pending (g.S.Source.left l.fn.src);
+  bytes : to_come (l.bytes.items ++ l.buffer.pending) (g.S.Source.state l.src).bytes ≡ to_come l.fn.self.pending (g.S.Source.state l.fn.src).bytes;
   within : length l.bytes.items ≤ l.most;
-  count : g.S.Source.faults l.fn.src ≤ g.S.Source.faults l.src;
+  count : (g.S.Source.state l.fn.src).faults ≤ (g.S.Source.state l.src).faults;
 }
 
 abbrev pub decreases-pieces : goal.decreases-pieces

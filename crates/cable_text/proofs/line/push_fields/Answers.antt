@@ -1,6 +1,6 @@
-use Rattle.site_text.specs.Line.{spaced}
-use Rattle.site_text.proofs.Writers.{wrote_part, wrote_more}
-use Rattle.site_text.proofs.line.push_fields.Goals as goal
+use Rattle.cable_text.specs.Fields.{spaced}
+use Rattle.cable_text.proofs.Writers.{wrote_part, wrote_more}
+use Rattle.cable_text.proofs.line.push_fields.Goals as goal
 
 pub returns-in_err-push_spaced : goal.returns-in_err-push_spaced
 returns-in_err-push_spaced g c =

@@ -1,9 +1,9 @@
 use Rattle.std.proofs.Common.{◌++◌, [], ◌∷◌, map, ◌∙◌, sym, append_assoc}
 use Rattle.std.specs.List.{concat}
 use Rattle.cable_text.proofs.Writing.{Writes-then}
-use Rattle.site_text.specs.Line.{spaced}
-use Rattle.site_text.proofs.Writers.{stopped, written_as, line-fields}
-use Rattle.site_text.proofs.line.push_pieces.Goals as goal
+use Rattle.cable_text.specs.Fields.{spaced}
+use Rattle.cable_text.proofs.Writers.{stopped, written_as, line-fields}
+use Rattle.cable_text.proofs.line.push_pieces.Goals as goal
 
 pub returns-in_err-push : goal.returns-in_err-push
 returns-in_err-push g c =

@@ -1,21 +1,21 @@
 -- Writers that stop at the first failure, and lines from their fields.
-use Rattle.std.proofs.Common.{◌≡◌, ℕ, List, [], ◌∷◌, ◌++◌, Option, Result, Ok, Err, IsErr, refl, sym, ◌∙◌, ap, append_assoc, map, take, drop, length, get_or, zero, suc, ◌+◌, ◌<◌, arith}
+use Rattle.std.proofs.Common.{◌≡◌, ℕ, List, [], ◌∷◌, ◌++◌, Result, Ok, Err, IsErr, refl, sym, ◌∙◌, ap, append_assoc, map, take, drop, length, get_or, zero, suc, ◌+◌, ◌<◌, arith}
 use Rattle.std.specs.List.{concat}
 use Rattle.std.proofs.lemmas.List.{append-nil}
 use Rattle.cable_text.specs.declared.stream.Failed.{Failed}
-use Rattle.cable_text.specs.Stream.{Writes}
+use Rattle.cable_text.specs.Stream.{StreamState, Writes}
 use Rattle.cable_text.proofs.Writing.{Writes-stop, Writes-then}
 use Rattle.cable_definitions.specs.Text.{words, line}
-use Rattle.site_text.specs.declared.line.Field.{Field}
-use Rattle.site_text.specs.Line.{field_text, spaced}
+use Rattle.cable_text.specs.declared.line.Field.{Field}
+use Rattle.cable_text.specs.Fields.{field_text, spaced}
 
 -- a writer that hands on a failure has written a first part of the whole text
-pub stopped : {r : Result (Unit {0}) Failed} {e : Failed} {a b : Option (List ℕ)} {i j : ℕ} {first whole : List ℕ} (second : List ℕ) → IsErr r → Writes {A = Unit {0}} (Err e) a b i j first → whole ≡ first ++ second → Writes r a b i j whole
+pub stopped : {r : Result (Unit {0}) Failed} {e : Failed} {a b : StreamState} {first whole : List ℕ} (second : List ℕ) → IsErr r → Writes {A = Unit {0}} (Err e) a b first → whole ≡ first ++ second → Writes r a b whole
 stopped {r = Ok u} second h p e = cc
 stopped {r = Err f} {whole} second h p e = rw e (Writes-stop f second p)
 
 -- the same text under another name
-pub written_as : {r : Result (Unit {0}) Failed} {a b : Option (List ℕ)} {i j : ℕ} {first whole : List ℕ} → Writes r a b i j first → whole ≡ first → Writes r a b i j whole
+pub written_as : {r : Result (Unit {0}) Failed} {a b : StreamState} {first whole : List ℕ} → Writes r a b first → whole ≡ first → Writes r a b whole
 written_as p e = rw e p
 
 -- what a list writes up to a place, at the place, and behind it
@@ -36,11 +36,11 @@ concat-take f (x ∷ xs) (suc i) d h =
     rw k (ap (λ l. f x ++ l) (concat-take f xs i d (omega arith)) ∙ sym (append_assoc (f x) (concat (map f (take i xs))) (f (get_or xs i d))))
 
 -- a loop over a list, one item further
-pub wrote_more : {X : Type 0} (f : X → List ℕ) (xs : List X) (i : ℕ) (d : X) {u v : Unit {0}} {a b c : Option (List ℕ)} {m n o : ℕ} → i < length xs → Writes {E = Failed} (Ok u) a b m n (concat (map f (take i xs))) → Writes {E = Failed} (Ok v) b c n o (f (get_or xs i d)) → Writes {E = Failed} (Ok v) a c m o (concat (map f (take (i + 1) xs)))
+pub wrote_more : {X : Type 0} (f : X → List ℕ) (xs : List X) (i : ℕ) (d : X) {u v : Unit {0}} {a b c : StreamState} → i < length xs → Writes {E = Failed} (Ok u) a b (concat (map f (take i xs))) → Writes {E = Failed} (Ok v) b c (f (get_or xs i d)) → Writes {E = Failed} (Ok v) a c (concat (map f (take (i + 1) xs)))
 wrote_more f xs i d h p q = rw (concat-take f xs i d h) (Writes-then p q)
 
 -- a loop over a list that stops at a failure
-pub wrote_part : {X : Type 0} (f : X → List ℕ) (xs : List X) (i : ℕ) (d : X) {u : Unit {0}} {e : Failed} {r : Result (Unit {0}) Failed} {a b c : Option (List ℕ)} {m n o : ℕ} → i < length xs → IsErr r → Writes {E = Failed} (Ok u) a b m n (concat (map f (take i xs))) → Writes {A = Unit {0}} (Err e) b c n o (f (get_or xs i d)) → Writes r a c m o (concat (map f xs))
+pub wrote_part : {X : Type 0} (f : X → List ℕ) (xs : List X) (i : ℕ) (d : X) {u : Unit {0}} {e : Failed} {r : Result (Unit {0}) Failed} {a b c : StreamState} → i < length xs → IsErr r → Writes {E = Failed} (Ok u) a b (concat (map f (take i xs))) → Writes {A = Unit {0}} (Err e) b c (f (get_or xs i d)) → Writes r a c (concat (map f xs))
 wrote_part f xs i d h is p q =
     stopped (concat (map f (drop (i + 1) xs))) is (Writes-then p q)
     (concat-at f xs i d h ∙ sym (append_assoc (concat (map f (take i xs))) (f (get_or xs i d)) (concat (map f (drop (i + 1) xs)))))
@@ -55,17 +55,17 @@ pub line-fields : (w : List ℕ) (fields : List Field) → line (w ∷ map field
 line-fields w fields = ap (λ l. l ++ 10 ∷ []) (words-fields w fields) ∙ append_assoc w (concat (map spaced fields)) (10 ∷ [])
 
 -- the same over items that are read from the list
-pub wrote_more_of : {X : Type 0} (f : X → List ℕ) (xs : List X) (i : ℕ) (x : X) {u v : Unit {0}} {a b c : Option (List ℕ)} {m n o : ℕ} → i < length xs → x ≡ get_or xs i x → Writes {E = Failed} (Ok u) a b m n (concat (map f (take i xs))) → Writes {E = Failed} (Ok v) b c n o (f x) → Writes {E = Failed} (Ok v) a c m o (concat (map f (take (i + 1) xs)))
+pub wrote_more_of : {X : Type 0} (f : X → List ℕ) (xs : List X) (i : ℕ) (x : X) {u v : Unit {0}} {a b c : StreamState} → i < length xs → x ≡ get_or xs i x → Writes {E = Failed} (Ok u) a b (concat (map f (take i xs))) → Writes {E = Failed} (Ok v) b c (f x) → Writes {E = Failed} (Ok v) a c (concat (map f (take (i + 1) xs)))
 wrote_more_of f xs i x h e p q = wrote_more f xs i x h p (written_as q (ap f (sym e)))
 
-pub wrote_part_of : {X : Type 0} (f : X → List ℕ) (xs : List X) (i : ℕ) (x : X) {u : Unit {0}} {e : Failed} {r : Result (Unit {0}) Failed} {a b c : Option (List ℕ)} {m n o : ℕ} → i < length xs → x ≡ get_or xs i x → IsErr r → Writes {E = Failed} (Ok u) a b m n (concat (map f (take i xs))) → Writes {A = Unit {0}} (Err e) b c n o (f x) → Writes r a c m o (concat (map f xs))
+pub wrote_part_of : {X : Type 0} (f : X → List ℕ) (xs : List X) (i : ℕ) (x : X) {u : Unit {0}} {e : Failed} {r : Result (Unit {0}) Failed} {a b c : StreamState} → i < length xs → x ≡ get_or xs i x → IsErr r → Writes {E = Failed} (Ok u) a b (concat (map f (take i xs))) → Writes {A = Unit {0}} (Err e) b c (f x) → Writes r a c (concat (map f xs))
 wrote_part_of f xs i x h same is p q = wrote_part f xs i x h is p (written_as q (ap f (sym same)))
 
 -- a first part of a text is one of a longer text
-pub longer : {r : Result (Unit {0}) Failed} {a b : Option (List ℕ)} {i j : ℕ} {first : List ℕ} (second : List ℕ) → IsErr r → Writes r a b i j first → Writes r a b i j (first ++ second)
+pub longer : {r : Result (Unit {0}) Failed} {a b : StreamState} {first : List ℕ} (second : List ℕ) → IsErr r → Writes r a b first → Writes r a b (first ++ second)
 longer {r = Ok u} second h p = cc
 longer {r = Err f} second h p = Writes-stop f second p
 
 -- a failure that is handed on
-pub handed : {r : Result (Unit {0}) Failed} {e : Failed} {a b : Option (List ℕ)} {i j : ℕ} {first : List ℕ} → IsErr r → Writes {A = Unit {0}} (Err e) a b i j first → Writes r a b i j first
+pub handed : {r : Result (Unit {0}) Failed} {e : Failed} {a b : StreamState} {first : List ℕ} → IsErr r → Writes {A = Unit {0}} (Err e) a b first → Writes r a b first
 handed {first} h p = stopped [] h p (sym (append-nil first))
