@@ -1,5 +1,7 @@
 -- a place is its two coordinates
 pub mod Places
+-- for callers: how far apart two places are at most, and least roots
+pub mod Distances
 -- places, cables and sites of the examples
 pub mod Sites
 -- lengths, walks, loads and costs that compute
@@ -20,7 +22,7 @@ pub mod Texts
 pub mod Words
 -- the first code of an item
 pub mod Faults
--- the first refusal behind a site
+-- the first refusal behind a site; for callers, that no cause comes before the first
 pub mod Refusals
 -- a whole document that is accepted
 pub mod Accepted

@@ -1,4 +1,4 @@
--- The first refusal behind a site, whole: a missing line, and a number out of its range.
+-- The first refusal behind a site, whole: a missing line, and a number out of its range; and for callers, that no cause comes before the first.
 use Rattle.std.proofs.Common.{◌≡◌, ℕ, zero, suc, ◌<◌, List, [], ◌∷◌, ◌++◌, pos, true, inl, refl, arith, ap, sym}
 use Rattle.std.proofs.lemmas.Int.{ints}
 use Rattle.std.specs.Prelude.{codes, length, Some, All, not, ◌==◌}
@@ -11,7 +11,7 @@ use Rattle.cable_definitions.specs.Refusal.{BudgetLine, IsLineAt, IsWithinLimits
 use Rattle.cable_definitions.proofs.Sites.{fork}
 
 -- no cause comes before the first
-none_before_line : (c : Cause) → cause_number c < 1 → ⊥
+pub none_before_line : (c : Cause) → cause_number c < 1 → ⊥
 none_before_line Line h = absurd (omega (arith, h))
 none_before_line Form h = absurd (omega (arith, h))
 none_before_line Site h = absurd (omega (arith, h))

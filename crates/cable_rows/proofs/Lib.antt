@@ -2,7 +2,5 @@
 pub mod Wellformed
 -- the rows of a pool, and one more
 pub mod Pools
--- largest capacities
-pub mod Capacities
 -- questions on the form of a row, met and not met
 pub mod Forms

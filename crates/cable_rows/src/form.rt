@@ -2,12 +2,11 @@
 
 ghost use Rattle.std.specs.Prelude.{◌≡◌, ◌≢◌, ◌+◌, ◌<◌, ◌≤◌, ◌↔◌, ℕ, List, [], length, IsTrue, All, OnOk, IfErr};
 ghost use Rattle.cable_definitions.specs.declared.cable.Cable.{Cable};
-ghost use Rattle.cable_definitions.specs.Arcs.{AreArcs, is_substation as is_substation_of};
+ghost use Rattle.cable_definitions.specs.Arcs.{AreArcs};
 ghost use Rattle.cable_definitions.specs.Layout.{IsLegal};
 ghost use Rattle.cable_definitions.specs.Row.{IsWellFormed, IsRowFault, Holds, InRange, Ascending, RightKind, NoSubstation, Incompatible, has_one_member, member_count as member_count_of, speaks_of as speaks_of_kind};
 ghost use Rattle.cable_rows.specs.Form.{IsMet, IsFirstUnmet, IsPairedWell, IsFirstBadPair};
 
-use crate::sides::kind_at;
 use cable_definitions::row::{RowFault, RowKind};
 use candidate_cables::Arcs;
 use site_model::{Kind, Site};
@@ -45,13 +44,6 @@ fn speaks_of(row: RowKind, kind: Kind) -> bool
     }
 }
 
-/// Whether a substation stands at a point.
-fn is_substation(kind: Kind) -> bool
-    ensures { result ≡ is_substation_of kind }
-{
-    matches!(kind, Kind::Substation { .. })
-}
-
 /// Whether each member is a point, or for `One` an arc.
 fn check_range(site: &Site, arcs: &Arcs, kind: RowKind, members: &[u32]) -> Result<(), RowFault>
     ensures met { OnOk result (IsMet site.now arcs.now kind members.now InRange) }
@@ -85,7 +77,7 @@ fn check_kinds(site: &Site, arcs: &Arcs, kind: RowKind, members: &[u32]) -> Resu
     ensures unmet { IfErr result (IsFirstUnmet site.now arcs.now kind members.now RightKind) }
 {
     for (place, member) in members.iter().enumerate() {
-        if !speaks_of(kind, kind_at(site, *member)) {
+        if !speaks_of(kind, site.kind(*member)) {
             return Err(RowFault::OtherKind(*member));
         }
     }
@@ -106,7 +98,7 @@ fn check_substations(
         return Ok(());
     };
     for (place, member) in members.iter().enumerate() {
-        if is_substation(kind_at(site, *member)) {
+        if site.kind(*member).is_substation() {
             return Err(RowFault::Substation(*member));
         }
     }

@@ -1,42 +1,18 @@
 //! The right side of a row.
 
 ghost use Rattle.std.specs.Prelude.{◌≡◌, ◌≤◌, ◌*◌, length, sum_by, unsigned_abs};
-ghost use Rattle.cable_definitions.specs.Site.{IsKind};
-ghost use Rattle.cable_definitions.specs.Arcs.{kind_of, power_of, largest_capacity as largest_capacity_of};
+ghost use Rattle.cable_definitions.specs.Arcs.{kind_of, power_of};
 ghost use Rattle.cable_definitions.specs.Row.{right as right_of, inlet_limit, power_limit, rounded_up as rounded_up_of};
 
 use cable_definitions::row::RowKind;
 use site_model::{Kind, Mode, Site};
-
-/// The kind of a point by its number; a number past the points counts as a bend.
-pub(crate) fn kind_at(site: &Site, p: u32) -> Kind
-    ensures kind { result ≡ kind_of site.now p }
-    ensures valid { IsKind result }
-{
-    let points = site.points();
-    if p as usize >= points.len() {
-        return Kind::Bend;
-    }
-    points[p as usize].kind
-}
-
-/// What a point feeds in.
-fn power_at(site: &Site, p: u32) -> u32
-    ensures power { result ≡ power_of site.now p }
-    ensures most { result ≤ 1000 }
-{
-    match kind_at(site, p) {
-        Kind::Turbine { power } => power,
-        _ => 0,
-    }
-}
 
 /// How many cables may end in a point.
 fn inlet_at(site: &Site, q: u32) -> u32
     ensures limit { result ≡ inlet_limit site.now.mode (kind_of site.now q) }
     ensures most { result ≤ 256 }
 {
-    match (kind_at(site, q), site.mode()) {
+    match (site.kind(q), site.mode()) {
         (Kind::Substation { feeders, .. }, _) => feeders,
         (Kind::Turbine { .. }, Mode::Tree) => 255,
         (Kind::Turbine { .. }, Mode::Strings) => 1,
@@ -49,7 +25,7 @@ fn power_limit_at(site: &Site, q: u32) -> u32
     ensures limit { result ≡ power_limit (kind_of site.now q) }
     ensures most { result ≤ 300000 }
 {
-    match kind_at(site, q) {
+    match site.kind(q) {
         Kind::Substation { power, .. } => power,
         _ => 0,
     }
@@ -63,7 +39,7 @@ fn total_power(site: &Site, members: &[u32]) -> u32
 {
     let mut total = 0;
     for member in members {
-        total += power_at(site, *member);
+        total += site.power(*member);
     }
     total
 }
@@ -94,19 +70,6 @@ fn total_limit(site: &Site, members: &[u32]) -> u32
     total
 }
 
-/// The largest capacity of the cable types.
-fn largest_capacity(site: &Site) -> u32
-    ensures largest { result ≡ largest_capacity_of site.now }
-    ensures some { 1 ≤ result }
-    ensures most { result ≤ 10000 }
-{
-    let mut most = 0;
-    for cable_type in site.types() {
-        most = most.max(cable_type.capacity);
-    }
-    most
-}
-
 /// The quotient rounded up.
 fn rounded_up(n: u32, k: u32) -> u32
     requires dividend { n ≤ 256000 }
@@ -131,6 +94,6 @@ pub(crate) fn right_side(site: &Site, kind: RowKind, members: &[u32]) -> i64
         RowKind::Bend => 0,
         RowKind::Power => -i64::from(total_limit(site, members)),
         RowKind::One => -1,
-        RowKind::Cut => i64::from(rounded_up(total_power(site, members), largest_capacity(site))),
+        RowKind::Cut => i64::from(rounded_up(total_power(site, members), site.largest_capacity())),
     }
 }

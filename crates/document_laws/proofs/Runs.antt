@@ -1,5 +1,5 @@
 -- Two runs of one reader over the same bytes: one is the beginning of the other, and a first cause ends both.
-use Rattle.std.proofs.Common.{◌≡◌, ℕ, zero, suc, ◌<◌, ◌⊎◌, ⊎_elim, inl, inr, List, [], ◌∷◌, refl, sym, ap, ◌∙◌, subst}
+use Rattle.std.proofs.Common.{◌≡◌, ℕ, ◌==◌, cond, ◌<◌, ◌⊎◌, ⊎_elim, inl, inr, List, [], ◌∷◌, refl, sym, ap, ◌∙◌, subst}
 use Rattle.std.proofs.lemmas.Bool.{cases_order}
 use Rattle.cable_definitions.specs.declared.cable.Arc.{Arc as CandidateArc}
 use Rattle.cable_definitions.specs.declared.claim.Cause.{Cause}
@@ -61,18 +61,7 @@ cause-ends s arcs e f left rest after piece cause (l ∷ more) n first reads = a
 -- ---- one cause comes first
 -- the cause of a number
 cause_of : ℕ → Cause
-cause_of (suc (suc zero)) = Form
-cause_of (suc (suc (suc zero))) = SiteCause
-cause_of (suc (suc (suc (suc zero)))) = Row
-cause_of (suc (suc (suc (suc (suc zero))))) = Limit
-cause_of (suc (suc (suc (suc (suc (suc zero)))))) = Node
-cause_of (suc (suc (suc (suc (suc (suc (suc zero))))))) = Weight
-cause_of (suc (suc (suc (suc (suc (suc (suc (suc zero)))))))) = Arc
-cause_of (suc (suc (suc (suc (suc (suc (suc (suc (suc zero))))))))) = Dead
-cause_of (suc (suc (suc (suc (suc (suc (suc (suc (suc (suc zero)))))))))) = Full
-cause_of (suc (suc (suc (suc (suc (suc (suc (suc (suc (suc (suc zero))))))))))) = Layout
-cause_of (suc (suc (suc (suc (suc (suc (suc (suc (suc (suc (suc (suc zero)))))))))))) = Verdict
-cause_of n = Line
+cause_of n = cond (n == 2) Form (cond (n == 3) SiteCause (cond (n == 4) Row (cond (n == 5) Limit (cond (n == 6) Node (cond (n == 7) Weight (cond (n == 8) Arc (cond (n == 9) Dead (cond (n == 10) Full (cond (n == 11) Layout (cond (n == 12) Verdict Line))))))))))
 
 numbered : (cause : Cause) → cause_of (cause_number cause) ≡ cause
 unfolding cause_of

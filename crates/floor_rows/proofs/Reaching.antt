@@ -13,7 +13,7 @@ use Rattle.cable_definitions.specs.Site.{Site, IsValid}
 use Rattle.cable_definitions.specs.Arcs.{AreArcs, IsCandidate, Bears, kind_of, is_turbine, power_of, power_of_kind, cost_of}
 use Rattle.cable_definitions.specs.InTree.{HasNoBends}
 use Rattle.cable_definitions.specs.Row.{Row, is_member, one_if, on_use, on_load, right}
-use Rattle.cable_definitions.specs.Choice.{Choice, NoCable, Carries, use_of, load_of, cost_of_choice, IsSumOfExtremes, least_load, IsChoice, at_row, sum_weighted, weighted_on_use, weighted_on_load, reduced_cost, AtMost, AreExtremes, IsValue, AreLawful}
+use Rattle.cable_definitions.specs.Choice.{Choice, NoCable, Carries, use_of, load_of, cost_of_choice, IsSumOfExtremes, least_load, IsChoice, at_row, sum_weighted, weighted_on_use, weighted_on_load, reduced_cost, AtMost, IsValue, AreLawful}
 use Rattle.number_laws.proofs.NatSums.{sum_by-times}
 use Rattle.number_laws.proofs.Ring.{var, nat, minus, times, same_value, at_most}
 use Rattle.number_laws.proofs.Sums.{sum_int, sum_int-cons, sum_int-zero, sum_int-same, sum_int-same_on, sum_int-least_on, sum_int-pos}
@@ -21,6 +21,7 @@ use Rattle.layout_laws.proofs.Monotone.{cheapest-le_higher}
 use Rattle.layout_laws.proofs.Typing.{all-at, some_cheapest}
 use Rattle.proof_laws.proofs.Boxes.{append_left, append_right}
 use Rattle.proof_laws.proofs.Lists.{some_at}
+use Rattle.proof_laws.proofs.NearestValue.{extremes-some}
 use Rattle.proof_laws.proofs.NoArc.{cut-without_arcs}
 use Rattle.intree_floor.specs.declared.weights.SetWeight.{SetWeight}
 use Rattle.intree_floor.specs.Weights.{leaves, weight_left, total_weight, IsTurbineSet, AreSetWeights, IsShut}
@@ -134,27 +135,12 @@ reduced-some s arcs rows n sets total none are weights stand i arc mark (Carries
     by_kind (Substation feeders power) k = absurd (let q : false ≡ true = sym (ap is_turbine k) ∙ turbine in cc)
     by_kind Bend k = absurd (let q : false ≡ true = sym (ap is_turbine k) ∙ turbine in cc)
 
--- least values that aren't negative have a sum that isn't
-extremes-some : (s : Site) (f : ℕ → Arc → Choice → ℤ) (n : ℕ) (arcs : List Arc) (marks : List Mark) (xs : List ℤ)
-    → ((i : ℕ) (a : Arc) (m : Mark) (choice : Choice) → slice_get arcs i ≡ Some a → IsChoice s a m choice → pos 0 ≤ℤ f (n + i) a choice)
-    → AreExtremes AtMost s f n arcs marks xs → pos 0 ≤ℤ sum_int (λ z. z) xs
-extremes-some s f n [] [] [] h e = omega (arith, ints)
-extremes-some s f n [] [] (x ∷ xs) h e = absurd e
-extremes-some s f n [] (m ∷ marks) xs h e = absurd e
-extremes-some s f n (a ∷ arcs) [] xs h e = absurd e
-extremes-some s f n (a ∷ arcs) (m ∷ marks) [] h e = absurd e
-extremes-some s f n (a ∷ arcs) (m ∷ marks) (x ∷ xs) h e =
-    let here : pos 0 ≤ℤ f n a e.0.choice = subst (λ (k : ℕ). pos 0 ≤ℤ f k a e.0.choice) (let q : n + 0 ≡ n = omega arith in q) (h 0 a m e.0.choice refl e.0.is_choice) in
-    let is = e.0.reached in
-    let rest = extremes-some s f (n + 1) arcs marks xs (λ i b k c u w. subst (λ (j : ℕ). pos 0 ≤ℤ f j b c) (let q : n + suc i ≡ n + 1 + i = omega arith in q) (h (suc i) b k c u w)) e.1 in
-    omega (arith, ints, here, is, rest, sum_int-cons (λ (z : ℤ). z) x xs)
-
 -- so the value is at least 2 ^ 20 times all weights
 value-sets : (s : Site) (arcs : List Arc) (rows : List Row) (n : ℕ) (sets : List SetWeight) (total : ℕ) (marks : List Mark) (value : ℤ) → IsValid s → HasNoBends s → AreArcs s arcs
     → AreSetWeights s sets total → StandFrom rows n sets → IsValue s arcs rows marks (weights_of n sets) value → pos (2 ^ 20 * total) ≤ℤ value
 value-sets s arcs rows n sets total marks value valid none are weights stand is =
     let some = extremes-some s (reduced_cost s rows (weights_of n sets)) 0 arcs marks is.is_least.extremes
-    (λ i a m choice e c. subst (λ (k : ℕ). pos 0 ≤ℤ reduced_cost s rows (weights_of n sets) k a choice) (let q : i ≡ 0 + i = omega arith in q)
+    (λ i a m choice e marked c. subst (λ (k : ℕ). pos 0 ≤ℤ reduced_cost s rows (weights_of n sets) k a choice) (let q : i ≡ 0 + i = omega arith in q)
     (reduced-some s arcs rows n sets total none are weights stand i a m choice e c)) is.is_least.are_extremes in
     by_parts _ _ _ _ _ some is.is_least.sum is.sum (right-sets s rows n sets valid weights.are_sets stand) weights.sum
   where

@@ -1,4 +1,4 @@
--- The rules of legal layouts, one by one.
+-- The rules of legal layouts, one by one, for callers.
 use Rattle.std.proofs.Common.{ℕ, List}
 use Rattle.cable_definitions.specs.declared.cable.Cable.{Cable}
 use Rattle.cable_definitions.specs.declared.cable.Rule.{Rule}

@@ -51,24 +51,27 @@ starts_in-turbine s cables g p turbine =
     (λ i j c d e f h u v. g.start j i d c f e h (eqb-true c.from p u ∙ sym (eqb-true d.from p v))) in
     omega (arith, some, most)
 
+-- these are the points of the site from number p on
+abbrev pub IsTail : Site → ℕ → List Point → Type 0
+IsTail s p points = (i : ℕ) (x : Point) → slice_get points i ≡ Some x → slice_get s.points (p + i) ≡ Some x
+
+-- the first of them is point p
+pub kind_here : (s : Site) (p : ℕ) (x : Point) (points : List Point) → IsTail s p (x ∷ points) → kind_of s p ≡ x.kind
+kind_here s p x points at = ap kind_from (ap (slice_get s.points) (let e : p ≡ p + 0 = omega arith in e) ∙ at 0 x refl)
+
+-- the others are those from number p + 1 on
+pub later_tail : (s : Site) (p : ℕ) (x : Point) (points : List Point) → IsTail s p (x ∷ points) → IsTail s (p + 1) points
+later_tail s p x points at i y e = ap (slice_get s.points) (let n : p + 1 + i ≡ p + suc i = omega arith in n) ∙ at (suc i) y e
+
 -- where each turbine's value is at least each least cost out of it, the sum of such costs is at most the sum of the values of all points
 nearest-le_from : (s : Site) (value : ℕ → ℕ) → ((p least : ℕ) → IsTrue (is_turbine (kind_of s p)) → IsLeastOut s p least → least ≤ value p)
-    → (p : ℕ) (points : List Point) (costs : List ℕ) → ((i : ℕ) (x : Point) → slice_get points i ≡ Some x → slice_get s.points (p + i) ≡ Some x)
+    → (p : ℕ) (points : List Point) (costs : List ℕ) → IsTail s p points
     → AreLeastOut s p points costs → sum costs ≤ sum_by value (range_with_len p (length points))
 nearest-le_from s value h p [] [] at a = omega arith
 nearest-le_from s value h p [] (cost ∷ costs) at a = absurd a
 nearest-le_from s value h p (x ∷ points) costs at a =
-    by x.kind kind costs a (λ further b. nearest-le_from s value h (p + 1) points further later b)
+    by x.kind (kind_here s p x points at) costs a (λ further b. nearest-le_from s value h (p + 1) points further (later_tail s p x points at) b)
   where
-    here : slice_get s.points p ≡ Some x
-    here = ap (slice_get s.points) (let e : p ≡ p + 0 = omega arith in e) ∙ at 0 x refl
-
-    kind : kind_of s p ≡ x.kind
-    kind = ap kind_from here
-
-    later : (i : ℕ) (y : Point) → slice_get points i ≡ Some y → slice_get s.points (p + 1 + i) ≡ Some y
-    later i y e = ap (slice_get s.points) (let n : p + 1 + i ≡ p + suc i = omega arith in n) ∙ at (suc i) y e
-
     by : (kind : Kind) → kind_of s p ≡ kind → (costs : List ℕ) → LeastOutAt s p kind costs (AreLeastOut s (p + 1) points)
         → ((further : List ℕ) → AreLeastOut s (p + 1) points further → sum further ≤ sum_by value (range_with_len (p + 1) (length points)))
         → sum costs ≤ sum_by value (range_with_len p (suc (length points)))

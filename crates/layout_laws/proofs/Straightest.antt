@@ -91,6 +91,18 @@ pub arc-borne : (s : Site) (p q : ℕ) → 1 ≤ length s.types → IsCandidate 
 arc-borne s p q some c =
     some_bears s (power_of s p) some (subst (λ (k : ℕ). k ≤ largest_capacity s) (sym (ap (λ (o : Option Point). power_of_kind (kind_from o)) c.from_is)) c.bearable)
 
+-- the cheapest type that bears the power of p on a cable from p to q, where some type does
+abbrev pub own_grade : Site → ℕ → ℕ → ℕ
+own_grade s p q = (cheap_or_none s p q (power_of s p)).0
+
+-- what a cable of this type costs with that power
+abbrev pub own_cost : Site → ℕ → ℕ → ℕ
+own_cost s p q = cost_of s p q (own_grade s p q) (power_of s p)
+
+-- this type is the cheapest where some type bears the power
+pub own_cheapest : (s : Site) (p q other : ℕ) → Bears s other (power_of s p) → IsCheapest s p q (power_of s p) (own_grade s p q)
+own_cheapest s p q other b = cheapest_of s p q (power_of s p) (own_grade s p q) other (cheap_or_none s p q (power_of s p)).1 b
+
 -- the least of all ends, and then of all types
 join_ends : (a b c q r g h other : ℕ) → (q ≡ r → g ≡ h) → (a < b) ⊎ ((a ≡ b) × (q ≤ r)) → (b < c) ⊎ ((b ≡ c) × (h ≤ other))
     → (a < c) ⊎ ((a ≡ c) × ((q < r) ⊎ ((q ≡ r) × (g ≤ other))))
@@ -117,33 +129,21 @@ pub record IsStraightOut (s : Site) (p : ℕ) : Type 0 where
 -- there is one out of a point with a candidate arc to a substation
 pub some_straight_cable : (s : Site) (arcs : List Arc) → 1 ≤ length s.types → AreArcs s arcs → (p q : ℕ) → IsWayIn s p q → IsStraightOut s p
 some_straight_cable s arcs some are p q way =
-    by (least_below costs (IsWayIn s p) (way_in_or_not s arcs are p) (length s.points))
+    by (least_below (own_cost s p) (IsWayIn s p) (way_in_or_not s arcs are p) (length s.points))
   where
-    power : ℕ
-    power = power_of s p
-
-    grade : ℕ → ℕ
-    grade r = (cheap_or_none s p r power).0
-
-    costs : ℕ → ℕ
-    costs r = cost_of s p r (grade r) power
-
-    cheapest : (r other : ℕ) → Bears s other power → IsCheapest s p r power (grade r)
-    cheapest r other b = cheapest_of s p r power (grade r) other (cheap_or_none s p r power).1 b
-
     by : ((r : ℕ) → r < length s.points → ¬ (IsWayIn s p r))
-        ⊎ ((r : ℕ) × (r < length s.points) × (IsWayIn s p r) × ((other : ℕ) → other < length s.points → IsWayIn s p other → Beats costs r other)) → IsStraightOut s p
+        ⊎ ((r : ℕ) × (r < length s.points) × (IsWayIn s p r) × ((other : ℕ) → other < length s.points → IsWayIn s p other → Beats (own_cost s p) r other)) → IsStraightOut s p
     by (inl none) = absurd (none q (slice_get_within s.points q way.0.to way.0.to_is) way)
     by (inr (r, l, w, least)) = record {
-      cable = record { from = p; to = r; grade = grade r };
+      cable = record { from = p; to = r; grade = own_grade s p r };
       from = refl;
       straight = record {
         candidate = w.0;
         to_substation = w.1;
-        bears = let b = arc-borne s p r some w.0 in (cheapest r b.0 b.1).bears;
+        bears = let b = arc-borne s p r some w.0 in (own_cheapest s p r b.0 b.1).bears;
         least = λ t other c h b.
-            join_ends (costs r) (costs t) (cost_of s p t other power) r t (grade r) (grade t) other (ap grade)
-            (least t (slice_get_within s.points t c.to c.to_is) (c, h)) ((cheapest t other b).least other b);
+            join_ends (own_cost s p r) (own_cost s p t) (cost_of s p t other (power_of s p)) r t (own_grade s p r) (own_grade s p t) other (ap (own_grade s p))
+            (least t (slice_get_within s.points t c.to c.to_is) (c, h)) ((own_cheapest s p t other b).least other b);
       };
     }
 

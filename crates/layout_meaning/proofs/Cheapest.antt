@@ -1,4 +1,4 @@
--- Cables with the cheapest types, one after another.
+-- Cables with the cheapest types, one after another, for callers.
 use Rattle.std.proofs.Common.{◌≡◌, ℕ, ◌+◌, ◌≤◌, List, [], ◌∷◌, ◌++◌, length, map, take, get_or, slice_get, Some, inl, inr, sym, ap, ◌∙◌, subst}
 use Rattle.std.proofs.lemmas.List.{take_all, take_more, map_push}
 use Rattle.cable_definitions.specs.declared.cable.Cable.{Cable}

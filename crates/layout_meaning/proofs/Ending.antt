@@ -1,24 +1,27 @@
 -- Bends and walks' ends, point by point.
-use Rattle.std.proofs.Common.{◌≡◌, ◌≢◌, ℕ, ◌<◌, ◌≤◌, List, length, Option, Some, None, IsSome, arith, refl, ap, ◌∙◌}
+use Rattle.std.proofs.Common.{◌≡◌, ℕ, ◌<◌, ◌≤◌, List, length, Option, Some, None, IsSome, false, arith, refl, ap, sym, ◌∙◌}
 use Rattle.cable_definitions.specs.declared.cable.Cable.{Cable}
 use Rattle.cable_definitions.specs.declared.site.Point.{Point}
 use Rattle.cable_definitions.specs.declared.site.Kind.TheVariants.{Bend}
 use Rattle.cable_definitions.specs.Site.{Site}
-use Rattle.cable_definitions.specs.Arcs.{IsPoint}
+use Rattle.cable_definitions.specs.Arcs.{IsPoint, kind_from, kind_of, is_bend}
 use Rattle.cable_definitions.specs.Walk.{cable_out, starts_in, ends_in}
 use Rattle.cable_definitions.specs.Layout.{KeepsRange, KeepsBend, KeepsEnd, Starts}
-use Rattle.layout_meaning.proofs.Places.{same_item, slice_get_below, out_place}
+use Rattle.layout_meaning.proofs.Places.{slice_get_below, out_place}
 
 -- as many cables start as end in the bend, and at most one
 pub bend_here : (s : Site) (cables : List Cable) (p : ℕ) → starts_in cables p ≡ ends_in cables p → starts_in cables p ≤ 1 → KeepsBend s cables p
 bend_here s cables p e h = record { as_many = λ point g b. e; at_most_one = λ point g b. h }
 
 -- another point than a bend
-pub bend_other : (s : Site) (cables : List Cable) (p : ℕ) (point : Point) → IsPoint s p point → point.kind ≢ Bend → KeepsBend s cables p
-bend_other s cables p point g n = record {
-  as_many = λ other h b. absurd (n (ap (λ (x : Point). x.kind) (same_item s.points p point other g h) ∙ b));
-  at_most_one = λ other h b. absurd (n (ap (λ (x : Point). x.kind) (same_item s.points p point other g h) ∙ b));
+pub bend_other : (s : Site) (cables : List Cable) (p : ℕ) → is_bend (kind_of s p) ≡ false → KeepsBend s cables p
+bend_other s cables p n = record {
+  as_many = λ point g b. absurd (bends point g b);
+  at_most_one = λ point g b. absurd (bends point g b);
 }
+  where
+    bends : (point : Point) → IsPoint s p point → ¬ (point.kind ≡ Bend)
+    bends point g b = let kind : kind_of s p ≡ Bend = ap kind_from g ∙ b in absurd (let no : is_bend Bend ≡ false = ap is_bend (sym kind) ∙ n in cc)
 
 -- past the points there is no bend
 pub bend_past : (s : Site) (cables : List Cable) (p : ℕ) → length s.points ≤ p → KeepsBend s cables p

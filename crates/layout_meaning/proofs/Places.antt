@@ -60,10 +60,6 @@ out_none (x ∷ xs) p i c e h = by_test x xs p i c (x.from == p) refl e h (λ j.
 pub at_each_place : (P : ℕ → Type 0) (n : ℕ) → ((i : ℕ) → i < n → P i) → ((i : ℕ) → n ≤ i → P i) → (i : ℕ) → P i
 at_each_place P n below past i = elim (cases_lt i n) [ inl h ↦ below i h | inr h ↦ past i h ]
 
--- the point that a loop over the points of a site reads
-pub point_here : (s : Site) (points : List Point) (i : ℕ) (point : Point) → points ≡ s.points → i < length points → point ≡ get_or points i point → IsPoint s i point
-point_here s points i point e h r = ap (λ (xs : List Point). slice_get xs i) (sym e) ∙ slice_get_at points i point h ∙ ap (λ (x : Point). Some x) (sym r)
-
 -- the cable out of a point is the one out of its start
 pub out_start : (cables : List Cable) (p : ℕ) (c : Cable) → cable_out cables p ≡ Some c → cable_out cables c.from ≡ Some c
 out_start cables p c e = ap (cable_out cables) (out_place cables p c e).start ∙ e

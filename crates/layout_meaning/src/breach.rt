@@ -4,16 +4,15 @@ ghost use Rattle.std.specs.Prelude.{◌≤◌, ◌<◌, length, IfNone, IfSome};
 ghost use Rattle.cable_definitions.specs.Layout.{rule_number};
 ghost use Rattle.cable_definitions.specs.Part.{IsGrown, IsFirstBrokenOfPart};
 ghost use Rattle.layout_meaning.specs.First.{KeepsBelow};
-ghost use Rattle.layout_meaning.specs.Loads.{AreLoads};
 
 use crate::candidates::first_no_candidate;
 use crate::clashes::first_clash;
 use crate::counts::{first_branched, first_crowded};
 use crate::ends::{first_lost, first_open_bend};
+use crate::flows::Flows;
 use crate::loads::{first_overloaded, first_overpowered};
 use crate::numbers::{first_out_of_range, first_repeated_start};
 use crate::outgoing::Outgoing;
-use crate::walks::all_loads;
 use cable_definitions::cable::{Cable, Rule};
 use site_model::Site;
 
@@ -57,27 +56,28 @@ pub(crate) fn breach_of_cables(site: &Site, cables: &[Cable]) -> Option<Breach>
 }
 
 /// The first breach of the rules on walks and loads, where cables are candidates with different starts.
-fn breach_of_walks(site: &Site, cables: &Outgoing, loads: &[u32; 256]) -> Option<Breach>
-    requires kept { KeepsBelow site.now cables.now 4 }
-    requires loads { AreLoads site.now cables.now loads.now }
-    ensures none { IfNone result (KeepsBelow site.now cables.now 8) }
-    ensures first { IfSome result (λ breach. IsFirstBrokenOfPart site.now cables.now breach.rule breach.a breach.b) }
+fn breach_of_walks(flows: &Flows) -> Option<Breach>
+    requires kept { KeepsBelow flows.now.site flows.now.cables 4 }
+    ensures none { IfNone result (KeepsBelow flows.now.site flows.now.cables 8) }
+    ensures first { IfSome result (λ breach. IsFirstBrokenOfPart flows.now.site flows.now.cables breach.rule breach.a breach.b) }
 {
-    if let Some(p) = first_open_bend(site, cables) {
+    let site = flows.site();
+    let outgoing = flows.outgoing();
+    if let Some(p) = first_open_bend(site, outgoing) {
         return Some(Breach {
             rule: Rule::Bend,
             a: p,
             b: p,
         });
     }
-    if let Some(p) = first_lost(site, cables) {
+    if let Some(p) = first_lost(site, outgoing) {
         return Some(Breach {
             rule: Rule::Lost,
             a: p,
             b: p,
         });
     }
-    if let Some(cable) = first_overloaded(site, cables, loads) {
+    if let Some(cable) = first_overloaded(flows) {
         return Some(Breach {
             rule: Rule::Overload,
             a: cable.from,
@@ -88,35 +88,36 @@ fn breach_of_walks(site: &Site, cables: &Outgoing, loads: &[u32; 256]) -> Option
 }
 
 /// The first breach of the rules on what meets: at substations, at turbines, and where cables clash.
-fn breach_of_meetings(site: &Site, cables: &Outgoing, loads: &[u32; 256]) -> Option<Breach>
-    requires count { length cables.now ≤ 256 }
-    requires kept { KeepsBelow site.now cables.now 8 }
-    requires loads { AreLoads site.now cables.now loads.now }
-    ensures none { IfNone result (KeepsBelow site.now cables.now 12) }
-    ensures first { IfSome result (λ breach. IsFirstBrokenOfPart site.now cables.now breach.rule breach.a breach.b) }
+fn breach_of_meetings(flows: &Flows) -> Option<Breach>
+    requires count { length flows.now.cables ≤ 256 }
+    requires kept { KeepsBelow flows.now.site flows.now.cables 8 }
+    ensures none { IfNone result (KeepsBelow flows.now.site flows.now.cables 12) }
+    ensures first { IfSome result (λ breach. IsFirstBrokenOfPart flows.now.site flows.now.cables breach.rule breach.a breach.b) }
 {
-    if let Some(p) = first_crowded(site, cables) {
+    let site = flows.site();
+    let outgoing = flows.outgoing();
+    if let Some(p) = first_crowded(site, outgoing) {
         return Some(Breach {
             rule: Rule::Feeders,
             a: p,
             b: p,
         });
     }
-    if let Some(p) = first_overpowered(site, cables.cables(), loads) {
+    if let Some(p) = first_overpowered(flows) {
         return Some(Breach {
             rule: Rule::Power,
             a: p,
             b: p,
         });
     }
-    if let Some(p) = first_branched(site, cables) {
+    if let Some(p) = first_branched(site, outgoing) {
         return Some(Breach {
             rule: Rule::Branch,
             a: p,
             b: p,
         });
     }
-    if let Some((a, b)) = first_clash(site, cables) {
+    if let Some((a, b)) = first_clash(site, outgoing) {
         return Some(Breach {
             rule: Rule::Clash,
             a,
@@ -127,17 +128,16 @@ fn breach_of_meetings(site: &Site, cables: &Outgoing, loads: &[u32; 256]) -> Opt
 }
 
 /// The first breach of the rules on what the cables join and carry.
-pub(crate) fn breach_of_farm(site: &Site, cables: &Outgoing, loads: &[u32; 256]) -> Option<Breach>
-    requires count { length cables.now ≤ 256 }
-    requires kept { KeepsBelow site.now cables.now 4 }
-    requires loads { AreLoads site.now cables.now loads.now }
-    ensures none { IfNone result (IsGrown site.now cables.now) }
-    ensures first { IfSome result (λ breach. IsFirstBrokenOfPart site.now cables.now breach.rule breach.a breach.b) }
+pub(crate) fn breach_of_farm(flows: &Flows) -> Option<Breach>
+    requires count { length flows.now.cables ≤ 256 }
+    requires kept { KeepsBelow flows.now.site flows.now.cables 4 }
+    ensures none { IfNone result (IsGrown flows.now.site flows.now.cables) }
+    ensures first { IfSome result (λ breach. IsFirstBrokenOfPart flows.now.site flows.now.cables breach.rule breach.a breach.b) }
 {
-    if let Some(breach) = breach_of_walks(site, cables, loads) {
+    if let Some(breach) = breach_of_walks(flows) {
         return Some(breach);
     }
-    breach_of_meetings(site, cables, loads)
+    breach_of_meetings(flows)
 }
 
 /// The first breach of all rules but `Unjoined`; none exactly where the cables are a grown part. It takes no memory.
@@ -149,7 +149,5 @@ pub(crate) fn first_breach_of_part(site: &Site, cables: &[Cable]) -> Option<Brea
     if let Some(breach) = breach_of_cables(site, cables) {
         return Some(breach);
     }
-    let outgoing = Outgoing::new(cables);
-    let loads = all_loads(site, &outgoing);
-    breach_of_farm(site, &outgoing, &loads)
+    breach_of_farm(&Flows::new(site, Outgoing::new(cables)))
 }

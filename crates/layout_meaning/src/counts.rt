@@ -14,14 +14,12 @@ pub(crate) fn first_crowded(site: &Site, cables: &Outgoing) -> Option<u32>
     ensures none { IfNone result ((p : ℕ) → KeepsFeeders site.now cables.now p) }
     ensures first { IfSome result (IsFirst (KeepsFeeders site.now cables.now)) }
 {
-    let mut p: u32 = 0;
-    for point in site.points() {
-        if let Kind::Substation { feeders, power } = point.kind {
+    for p in 0..site.points().len() as u32 {
+        if let Kind::Substation { feeders, power } = site.kind(p) {
             if end_count(cables, p) > feeders as usize {
                 return Some(p);
             }
         }
-        p += 1;
     }
     None
 }
@@ -43,14 +41,12 @@ fn first_joint(site: &Site, cables: &Outgoing) -> Option<u32>
     ensures none { IfNone result ((p : ℕ) → KeepsString site.now cables.now p) }
     ensures first { IfSome result (IsFirst (KeepsString site.now cables.now)) }
 {
-    let mut p: u32 = 0;
-    for point in site.points() {
-        if let Kind::Turbine { power } = point.kind {
+    for p in 0..site.points().len() as u32 {
+        if site.kind(p).is_turbine() {
             if end_count(cables, p) > 1 {
                 return Some(p);
             }
         }
-        p += 1;
     }
     None
 }

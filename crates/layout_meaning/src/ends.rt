@@ -1,28 +1,25 @@
 //! Turbines without a cable, open bends, and walks that end in no substation.
 
-ghost use Rattle.std.specs.Prelude.{◌≡◌, ℕ, ◌<◌, ◌≤◌, ◌↔◌, IsTrue, length, IfNone, IfSome};
+ghost use Rattle.std.specs.Prelude.{◌≡◌, ℕ, ◌<◌, ◌≤◌, length, IfNone, IfSome};
 ghost use Rattle.cable_definitions.specs.Layout.{KeepsRange, KeepsJoined, KeepsBend, KeepsEnd};
 ghost use Rattle.cable_definitions.specs.Walk.{starts_in, ends_in};
-ghost use Rattle.cable_definitions.specs.Arcs.{kind_of, is_substation};
 ghost use Rattle.layout_meaning.specs.First.{IsFirst};
 
 use crate::outgoing::Outgoing;
 use crate::walks::walk_end;
-use site_model::{Kind, Site};
+use site_model::Site;
 
 /// The first turbine that starts no cable.
 pub(crate) fn first_unjoined(site: &Site, cables: &Outgoing) -> Option<u32>
     ensures none { IfNone result ((p : ℕ) → KeepsJoined site.now cables.now p) }
     ensures first { IfSome result (IsFirst (KeepsJoined site.now cables.now)) }
 {
-    let mut p: u32 = 0;
-    for point in site.points() {
-        if let Kind::Turbine { power } = point.kind {
+    for p in 0..site.points().len() as u32 {
+        if site.kind(p).is_turbine() {
             if !cables.starts(p) {
                 return Some(p);
             }
         }
-        p += 1;
     }
     None
 }
@@ -50,9 +47,8 @@ pub(crate) fn first_open_bend(site: &Site, cables: &Outgoing) -> Option<u32>
     ensures none { IfNone result ((p : ℕ) → KeepsBend site.now cables.now p) }
     ensures first { IfSome result (IsFirst (KeepsBend site.now cables.now)) }
 {
-    let mut p: u32 = 0;
-    for point in site.points() {
-        if let Kind::Bend = point.kind {
+    for p in 0..site.points().len() as u32 {
+        if site.kind(p).is_bend() {
             let starting = start_count(cables, p);
             if starting > 1 {
                 return Some(p);
@@ -61,7 +57,6 @@ pub(crate) fn first_open_bend(site: &Site, cables: &Outgoing) -> Option<u32>
                 return Some(p);
             }
         }
-        p += 1;
     }
     None
 }
@@ -72,21 +67,12 @@ pub(crate) fn first_lost(site: &Site, cables: &Outgoing) -> Option<u32>
     ensures none { IfNone result ((p : ℕ) → KeepsEnd site.now cables.now p) }
     ensures first { IfSome result (IsFirst (KeepsEnd site.now cables.now)) }
 {
-    let mut p: u32 = 0;
-    for point in site.points() {
+    for p in 0..site.points().len() as u32 {
         if cables.starts(p) {
-            if !is_substation_at(site, walk_end(cables, p)) {
+            if !site.kind(walk_end(cables, p)).is_substation() {
                 return Some(p);
             }
         }
-        p += 1;
     }
     None
-}
-
-/// Whether a substation stands at a point; not so at a number past the points.
-fn is_substation_at(site: &Site, p: u32) -> bool
-    ensures { IsTrue result ↔ IsTrue (is_substation (kind_of site.now p)) }
-{
-    matches!(site.kind(p), Kind::Substation { .. })
 }

@@ -32,18 +32,11 @@ pub enum JoinFault {
     Breaks(Rule, u32, u32),
 }
 
-/// Whether a turbine stands at a point; not so at a number past the points.
-fn is_turbine_at(site: &Site, p: u32) -> bool
-    ensures { IsTrue result ↔ IsTrue (is_turbine (kind_of site.now p)) }
-{
-    matches!(site.kind(p), Kind::Turbine { .. })
-}
-
 /// Whether a point is a turbine that starts a cable.
 pub(crate) fn is_joined(site: &Site, part: &Outgoing, p: u32) -> bool
     ensures { IsTrue result ↔ (IsTrue (is_turbine (kind_of site.now p)) × Starts part.now p) }
 {
-    if !is_turbine_at(site, p) {
+    if !site.kind(p).is_turbine() {
         return false;
     }
     part.starts(p)
@@ -53,7 +46,7 @@ pub(crate) fn is_joined(site: &Site, part: &Outgoing, p: u32) -> bool
 pub(crate) fn is_unjoined(site: &Site, part: &Outgoing, p: u32) -> bool
     ensures { IsTrue result ↔ IsUnjoined site.now part.now p }
 {
-    if !is_turbine_at(site, p) {
+    if !site.kind(p).is_turbine() {
         return false;
     }
     !part.starts(p)

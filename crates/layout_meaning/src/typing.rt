@@ -4,9 +4,9 @@ ghost use Rattle.std.specs.Prelude.{◌≡◌, ℕ, ◌≤◌, ◌<◌, length};
 ghost use Rattle.cable_definitions.specs.Part.{AreCheapTyped};
 ghost use Rattle.layout_meaning.specs.Typed.{IsCheapestOrZero, AreTyped, JoinPoints};
 
+use crate::flows::Flows;
 use crate::layout::MOST_CABLES;
 use crate::outgoing::Outgoing;
-use crate::walks::all_loads;
 use cable_definitions::cable::Cable;
 use site_model::Site;
 use std::marker::Model;
@@ -81,15 +81,16 @@ fn cheapest_or_zero(site: &Site, from: u32, to: u32, load: u32) -> u32
 }
 
 /// The cables, each with the cheapest type that bears its load, or with type 0 where no type does. It takes no memory.
-pub fn with_cheapest_types(site: &Site, cables: &[Cable]) -> CableList
-    requires few { length cables.now ≤ 256 }
-    requires points { JoinPoints site.now cables.now }
-    ensures { AreCheapTyped site.now cables.now result }
+pub fn cheapest_types(flows: &Flows) -> CableList
+    requires few { length flows.now.cables ≤ 256 }
+    requires points { JoinPoints flows.now.site flows.now.cables }
+    ensures { AreCheapTyped flows.now.site flows.now.cables result }
 {
-    let loads = all_loads(site, &Outgoing::new(cables));
+    let site = flows.site();
+    let cables = flows.cables();
     let mut typed = CableList::new();
     for cable in cables {
-        let carried = loads[cable.from as usize];
+        let carried = flows.load(cable.from);
         typed.push(Cable {
             from: cable.from,
             to: cable.to,
@@ -97,4 +98,13 @@ pub fn with_cheapest_types(site: &Site, cables: &[Cable]) -> CableList
         });
     }
     typed
+}
+
+/// The cables, each with the cheapest type that bears its load, or with type 0 where no type does. It takes no memory.
+pub fn with_cheapest_types(site: &Site, cables: &[Cable]) -> CableList
+    requires few { length cables.now ≤ 256 }
+    requires points { JoinPoints site.now cables.now }
+    ensures { AreCheapTyped site.now cables.now result }
+{
+    cheapest_types(&Flows::new(site, Outgoing::new(cables)))
 }

@@ -6,9 +6,9 @@ ghost use Rattle.layout_meaning.specs.Verdict.{IsVerdict};
 use crate::breach::{Breach, breach_of_cables, breach_of_farm};
 use crate::costs::total_cost;
 use crate::ends::first_unjoined;
+use crate::flows::Flows;
 use crate::layout::Layout;
 use crate::outgoing::Outgoing;
-use crate::walks::all_loads;
 use cable_definitions::cable::{Cable, Rule};
 use site_model::Site;
 
@@ -40,10 +40,10 @@ pub fn judge_cables(site: &Site, cables: &[Cable]) -> Verdict
     if let Some(p) = first_unjoined(site, &outgoing) {
         return Verdict::Broken(Rule::Unjoined, p, p);
     }
-    let loads = all_loads(site, &outgoing);
-    match breach_of_farm(site, &outgoing, &loads) {
+    let flows = Flows::new(site, outgoing);
+    match breach_of_farm(&flows) {
         Some(breach) => broken(breach),
-        None => Verdict::Legal(total_cost(site, cables, &loads)),
+        None => Verdict::Legal(total_cost(&flows)),
     }
 }
 

@@ -1,7 +1,3 @@
--- the number of digits
-pub mod Digits
--- spaces and columns
-pub mod Spacing
 -- writers of numbered items
 pub mod Numbering
 -- the lines of a report, and its parts

@@ -10,6 +10,7 @@ use Rattle.cable_definitions.specs.declared.site.Point.{Point}
 use Rattle.cable_definitions.specs.Site.{Site}
 use Rattle.cable_definitions.specs.Walk.{load}
 use Rattle.cable_definitions.specs.Text.{line, mode_line, name_of, name_from, claim_line}
+use Rattle.layout_meaning.specs.Partial.{SitePart}
 use Rattle.cable_definitions.specs.Report.{left_in, right_in, cable_length, cable_cost, of_type, report_cable, report_type, report_point, report_text}
 
 -- the line of a type, with its words one by one
@@ -55,7 +56,10 @@ report_parts s cables claim =
     ∙ ap (λ l. mode_line s.mode ++ cables_text s cables ++ types_text s cables ++ l ++ claim_line s claim)
     (flat_map-concat (λ (q : ℕ × Point). report_point s cables q.0 q.1.name q.1.kind) (enumerate_from 0 s.points))
 
--- the same over a list of cables that was read from a layout
-pub report_parts_of : (s : Site) (layout cables : List Cable) (claim : Claim) → cables ≡ layout
-    → report_text s layout claim ≡ mode_line s.mode ++ cables_text s cables ++ types_text s cables ++ points_text s cables ++ claim_line s claim
-report_parts_of s layout cables claim e = ap (λ (cs : List Cable). report_text s cs claim) (sym e) ∙ report_parts s cables claim
+-- the same over a site and cables that were put together
+pub report_parts_of : (s : Site) (layout : List Cable) (flows : SitePart) (claim : Claim) → flows ≡ record { site = s; cables = layout }
+    → report_text s layout claim
+    ≡ mode_line s.mode ++ cables_text flows.site flows.cables ++ types_text flows.site flows.cables ++ points_text flows.site flows.cables ++ claim_line s claim
+report_parts_of s layout flows claim e =
+    report_parts s layout claim
+    ∙ ap (λ (f : SitePart). mode_line s.mode ++ cables_text f.site f.cables ++ types_text f.site f.cables ++ points_text f.site f.cables ++ claim_line s claim) (sym e)

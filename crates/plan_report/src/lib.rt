@@ -1,7 +1,6 @@
 //! The report of a plan: its cables, what each type and each substation bears, and its verdict.
 #![tactic(auto)]
 
-mod columns;
 mod sums;
 mod write;
 

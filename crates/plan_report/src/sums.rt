@@ -2,11 +2,9 @@
 
 ghost use Rattle.std.specs.Prelude.{◌≡◌, ◌≤◌, ◌<◌, length, sum_by, All};
 ghost use Rattle.cable_definitions.specs.Report.{cable_length as length_of_cable, cable_cost as cost_of_cable, of_type};
-ghost use Rattle.cable_definitions.specs.Walk.{load, ends_in, load_into as load_into_of};
-ghost use Rattle.layout_meaning.specs.Loads.{AreLoads};
 ghost use Rattle.plan_report.specs.Reported.{IsReported};
 
-use layout_meaning::Cable;
+use layout_meaning::{Cable, Flows};
 use plane_geometry::length;
 use site_model::Site;
 
@@ -23,24 +21,14 @@ pub(crate) fn cable_length(site: &Site, cable: Cable) -> u32
     length(from, to)
 }
 
-/// The load of a cable in power units, from the loads of the cables out of all points.
-pub(crate) fn cable_load(site: &Site, cables: &[Cable], loads: &[u32; 256], cable: Cable) -> u32
-    requires loads { AreLoads site.now cables.now loads.now }
-    requires from { cable.from < length site.now.points }
-    ensures carried { result ≡ load site.now cables.now cable.from }
-    ensures small { result ≤ 256000 }
-{
-    loads[cable.from as usize]
-}
-
 /// The cost of a cable at its load, in cost units.
-pub(crate) fn cable_cost(site: &Site, cables: &[Cable], loads: &[u32; 256], cable: Cable) -> u64
-    requires loads { AreLoads site.now cables.now loads.now }
-    requires cable { IsReported site.now cables.now cable }
-    ensures cost { result ≡ cost_of_cable site.now cables.now cable }
+pub(crate) fn cable_cost(flows: &Flows, cable: Cable) -> u64
+    requires { IsReported flows.now.site flows.now.cables cable }
+    ensures cost { result ≡ cost_of_cable flows.now.site flows.now.cables cable }
     ensures small { result ≤ 28400000000000000 }
 {
-    let carried = cable_load(site, cables, loads, cable);
+    let site = flows.site();
+    let carried = flows.load(cable.from);
     site.arc_cost(cable.from, cable.to, cable.grade, carried)
 }
 
@@ -67,39 +55,16 @@ pub(crate) fn length_of_type(site: &Site, cables: &[Cable], grade: u32) -> u64
 }
 
 /// The sum of the costs of the cables of a type, each at its load, in cost units.
-pub(crate) fn cost_of_type(site: &Site, cables: &[Cable], loads: &[u32; 256], grade: u32) -> u64
-    requires count { length cables.now ≤ 256 }
-    requires cables { All (IsReported site.now cables.now) cables.now }
-    requires loads { AreLoads site.now cables.now loads.now }
-    ensures { result ≡ sum_by (cost_of_cable site.now cables.now) (of_type cables.now grade) }
+pub(crate) fn cost_of_type(flows: &Flows, grade: u32) -> u64
+    requires count { length flows.now.cables ≤ 256 }
+    requires cables { All (IsReported flows.now.site flows.now.cables) flows.now.cables }
+    ensures { result ≡ sum_by (cost_of_cable flows.now.site flows.now.cables) (of_type flows.now.cables grade) }
 {
+    let cables = flows.cables();
     let mut total: u64 = 0;
     for cable in cables {
         if cable.grade == grade {
-            total += cable_cost(site, cables, loads, *cable);
-        }
-    }
-    total
-}
-
-/// How many cables end in a point.
-pub(crate) fn end_count(cables: &[Cable], p: u32) -> usize
-    ensures { result ≡ ends_in cables.now p }
-{
-    cables.iter().filter(|cable| cable.to == p).count()
-}
-
-/// The sum of the loads of the cables that end in a point, in power units.
-pub(crate) fn load_into(site: &Site, cables: &[Cable], loads: &[u32; 256], p: u32) -> u32
-    requires count { length cables.now ≤ 256 }
-    requires cables { All (IsReported site.now cables.now) cables.now }
-    requires loads { AreLoads site.now cables.now loads.now }
-    ensures { result ≡ load_into_of site.now cables.now p }
-{
-    let mut total: u32 = 0;
-    for cable in cables {
-        if cable.to == p {
-            total += cable_load(site, cables, loads, *cable);
+            total += cable_cost(flows, *cable);
         }
     }
     total

@@ -65,7 +65,7 @@ bound-same parent value a b h k =
 
 -- ---- values where no choice leaves less than nothing
 -- least values that aren't negative have a sum that isn't
-extremes-some : (s : Site) (f : ℕ → Arc → Choice → ℤ) (n : ℕ) (arcs : List Arc) (marks : List Mark) (xs : List ℤ)
+pub extremes-some : (s : Site) (f : ℕ → Arc → Choice → ℤ) (n : ℕ) (arcs : List Arc) (marks : List Mark) (xs : List ℤ)
     → ((i : ℕ) (a : Arc) (m : Mark) (choice : Choice) → slice_get arcs i ≡ Some a → slice_get marks i ≡ Some m → IsChoice s a m choice → pos 0 ≤ℤ f (n + i) a choice)
     → AreExtremes AtMost s f n arcs marks xs → pos 0 ≤ℤ sum_int (λ z. z) xs
 extremes-some s f n [] [] [] h e = omega (arith, ints)

@@ -1,14 +1,11 @@
 -- No length exceeds 2,828,428.
 use Rattle.std.proofs.Common.{◌≡◌, ℕ, zero, suc, ◌+◌, ◌*◌, ◌^◌, ◌<◌, ◌≤◌, Bool, true, false, cond, ltb, Option, Some, None, arith, refl}
-use Rattle.std.specs.Prelude.{unsigned_abs, ◌-ℤ◌, ℤ}
-use Rattle.std.proofs.lemmas.Nat.{mul-le}
 use Rattle.std.proofs.lemmas.Bool.Decides.{nat_tests}
-use Rattle.std.proofs.lemmas.Int.{ints}
 use Rattle.cable_definitions.specs.declared.place.Place.{Place}
 use Rattle.cable_definitions.specs.declared.site.Point.{Point}
-use Rattle.cable_definitions.specs.Coordinate.{IsCoordinate}
 use Rattle.cable_definitions.specs.Plane.{root_below, root_bits, length_of, square_distance}
 use Rattle.cable_definitions.specs.Arcs.{length_between}
+use Rattle.cable_definitions.proofs.Distances.{root_least, distance_small}
 
 -- the root that is computed has a square below the number
 root_low : (bits n root : ℕ) → root * root < n → root_below bits n root * root_below bits n root < n
@@ -27,20 +24,7 @@ root_low (suc bits) n root h = by_test (ltb ((root + 2 ^ bits) * (root + 2 ^ bit
 
 -- a root whose square is below a small number is small
 root_small : (r n : ℕ) → r * r < n → n ≤ 8000000000000 → r + 1 ≤ 2828428
-root_small r n h k = least r 2828428 n h (omega (arith, k))
-  where
-    least : (r l n : ℕ) → r * r < n → n ≤ l * l → r + 1 ≤ l
-    least r l n h k = grind (arith, mul-le)
-
--- a distance is small
-step_small : (a b : ℤ) → IsCoordinate a → IsCoordinate b → unsigned_abs (b -ℤ a) ≤ 2000000
-step_small a b h k = omega (arith, ints)
-
-distance_small : (a b : Place) → square_distance a b ≤ 8000000000000
-distance_small a b =
-    let m = step_small a.x b.x a.x_in_range b.x_in_range in
-    let n = step_small a.y b.y a.y_in_range b.y_in_range in
-    omega (arith, mul-le (unsigned_abs (b.x -ℤ a.x)) (unsigned_abs (b.x -ℤ a.x)) 2000000 2000000 m m, mul-le (unsigned_abs (b.y -ℤ a.y)) (unsigned_abs (b.y -ℤ a.y)) 2000000 2000000 n n)
+root_small r n h k = root_least r 2828428 n h (omega (arith, k))
 
 -- the length that is computed
 by_zero : (bits n : ℕ) → n ≤ 8000000000000 → (t : Bool) → ltb 0 n ≡ t → cond t (root_below bits n 0 + 1) 0 ≤ 2828428

@@ -5,7 +5,7 @@ use Rattle.std.proofs.lemmas.Bool.{eqb-true, leb-true, and_parts}
 use Rattle.cable_definitions.specs.declared.site.SiteCode.{SiteCode}
 use Rattle.cable_definitions.specs.declared.site.SiteCode.TheVariants.{Form, Shape}
 use Rattle.cable_definitions.specs.Items.{RawItem, AVersion, AMode, AType, APoint, AnObstacle, ACorner, APair, TheEnd, Misshapen, Stray, Unended, Missing, Overlong, Draft, empty_draft, is_settled, is_broken_line, IsFirstCode, IsGood, Adds, IsItemAt, ReadsItems, IsLineFault}
-use Rattle.site_model.proofs.Codes.{IsFirstCode-unique, IsFirstCode-good}
+use Rattle.site_model.proofs.Codes.{IsFirstCode-unique, IsFirstCode-good, not_broken}
 use Rattle.site_laws.proofs.LineItems.{next_item, next_rest}
 use Rattle.site_laws.proofs.Adding.{NamesDiffer, NamesDiffer-empty, adds_same, names_kept}
 
@@ -41,19 +41,7 @@ stops_bad d bytes rest bad code here first item after at good =
 
 -- what adds to a draft is no broken line
 pub adds_whole : (d e : Draft) (item : RawItem) → Adds d item e → is_broken_line item ≡ false
-adds_whole d e (AVersion v) h = refl
-adds_whole d e (AMode m) h = refl
-adds_whole d e (AType c p l) h = refl
-adds_whole d e (APoint n x y k) h = refl
-adds_whole d e (AnObstacle k) h = refl
-adds_whole d e (ACorner x y) h = refl
-adds_whole d e (APair a b r) h = refl
-adds_whole d e TheEnd h = refl
-adds_whole d e Misshapen h = refl
-adds_whole d e Stray h = refl
-adds_whole d e Unended h = absurd h
-adds_whole d e Missing h = absurd h
-adds_whole d e Overlong h = absurd h
+adds_whole d e item h = let Added : RawItem → Type 0 = λ i. Adds d i e in not_broken item (λ b. subst Added b h) (λ b. subst Added b h) (λ b. subst Added b h)
 
 -- two runs that are one
 pub record SameRun (items others : List RawItem) (e f : Draft) (rest left : List ℕ) : Type 0 where

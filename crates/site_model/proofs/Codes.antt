@@ -1,28 +1,17 @@
--- The first code of an item, one code after another.
+-- The first code of an item, one code after another, for callers.
 use Rattle.site_model.specs.declared.fault.BuildFault.{BuildFault}
 use Rattle.site_model.specs.declared.fault.BuildFault.TheVariants.{Refused}
 use Rattle.std.specs.Result.{is_err, OnOk, OnErr}
-use Rattle.std.proofs.Common.{◌≡◌, ◌↔◌, Result, Ok, Err, true, false, ℕ, zero, suc, ◌<◌, ◌≤◌, ⊎_elim, IsTrue, refl, sym, ap, ◌∙◌, subst, arith}
+use Rattle.std.proofs.Common.{◌≡◌, ◌↔◌, Result, Ok, Err, true, false, ℕ, suc, ◌==◌, cond, ◌<◌, ◌≤◌, ⊎_elim, IsTrue, refl, sym, ap, ◌∙◌, subst, arith}
 use Rattle.std.specs.Prelude.{All, IsSome}
 use Rattle.std.proofs.lemmas.Bool.{cases_lt}
 use Rattle.cable_definitions.specs.declared.site.SiteCode.{SiteCode}
 use Rattle.cable_definitions.specs.declared.site.SiteCode.TheVariants.{TooLong, Form, Shape, Range, BadName, SameName, SamePlace, UnknownName, SamePair, InObstacle, TooMany}
-use Rattle.cable_definitions.specs.Items.{RawItem, Overlong, Draft, may_stand, is_readable, fields_of, Breaks, code_number, IsFirstCode, IsGood}
+use Rattle.cable_definitions.specs.Items.{RawItem, AVersion, AMode, AType, APoint, AnObstacle, ACorner, APair, TheEnd, Misshapen, Stray, Unended, Missing, Overlong, Draft, may_stand, is_readable, is_broken_line, fields_of, Breaks, code_number, IsFirstCode, IsGood}
 
 -- the code of a number
 code_at : ℕ → SiteCode
-code_at zero = TooLong
-code_at (suc zero) = TooLong
-code_at (suc (suc zero)) = Form
-code_at (suc (suc (suc zero))) = Shape
-code_at (suc (suc (suc (suc zero)))) = Range
-code_at (suc (suc (suc (suc (suc zero))))) = BadName
-code_at (suc (suc (suc (suc (suc (suc zero)))))) = SameName
-code_at (suc (suc (suc (suc (suc (suc (suc zero))))))) = SamePlace
-code_at (suc (suc (suc (suc (suc (suc (suc (suc zero)))))))) = UnknownName
-code_at (suc (suc (suc (suc (suc (suc (suc (suc (suc zero))))))))) = SamePair
-code_at (suc (suc (suc (suc (suc (suc (suc (suc (suc (suc zero)))))))))) = InObstacle
-code_at (suc (suc (suc (suc (suc (suc (suc (suc (suc (suc (suc n))))))))))) = TooMany
+code_at n = cond (n == 1) TooLong (cond (n == 2) Form (cond (n == 3) Shape (cond (n == 4) Range (cond (n == 5) BadName (cond (n == 6) SameName (cond (n == 7) SamePlace (cond (n == 8) UnknownName (cond (n == 9) SamePair (cond (n == 10) InObstacle TooMany)))))))))
 
 -- each code is that of its number
 code_at-code_number : (c : SiteCode) → code_at (code_number c) ≡ c
@@ -43,19 +32,19 @@ code_at-code_number TooMany = refl
 same_code : (c other : SiteCode) → code_number c ≡ code_number other → c ≡ other
 same_code c other e = sym (code_at-code_number c) ∙ ap code_at e ∙ code_at-code_number other
 
--- there are eleven codes
-code_number-below : (c : SiteCode) → code_number c < 12
-code_number-below TooLong = omega arith
-code_number-below Form = omega arith
-code_number-below Shape = omega arith
-code_number-below Range = omega arith
-code_number-below BadName = omega arith
-code_number-below SameName = omega arith
-code_number-below SamePlace = omega arith
-code_number-below UnknownName = omega arith
-code_number-below SamePair = omega arith
-code_number-below InObstacle = omega arith
-code_number-below TooMany = omega arith
+-- the codes are numbered from 1 to 11
+code_number-within : (c : SiteCode) → (1 ≤ code_number c) × (code_number c < 12)
+code_number-within TooLong = (omega arith, omega arith)
+code_number-within Form = (omega arith, omega arith)
+code_number-within Shape = (omega arith, omega arith)
+code_number-within Range = (omega arith, omega arith)
+code_number-within BadName = (omega arith, omega arith)
+code_number-within SameName = (omega arith, omega arith)
+code_number-within SamePlace = (omega arith, omega arith)
+code_number-within UnknownName = (omega arith, omega arith)
+code_number-within SamePair = (omega arith, omega arith)
+code_number-within InObstacle = (omega arith, omega arith)
+code_number-within TooMany = (omega arith, omega arith)
 
 -- the item keeps each rule whose code is below this number
 abbrev pub KeepsBelow : Draft → RawItem → ℕ → Type 0
@@ -74,23 +63,15 @@ IsFirstCode-at d item c before broken = record { broken = broken; least = before
 
 -- an item that keeps every rule is good
 pub IsGood-kept : (d : Draft) (item : RawItem) → KeepsBelow d item 12 → IsGood d item
-IsGood-kept d item kept c = kept c (code_number-below c)
+IsGood-kept d item kept c = kept c (code_number-within c).1
+
+-- no rule comes before the first
+pub KeepsBelow-none : (d : Draft) (item : RawItem) → KeepsBelow d item 1
+KeepsBelow-none d item other l broken = let some = (code_number-within other).0 in absurd (omega arith)
 
 -- an item that is no overlong line keeps the first rule
-KeepsBelow-line : (d : Draft) (item : RawItem) → ¬ (item ≡ Overlong) → KeepsBelow d item 2
-KeepsBelow-line d item short = KeepsBelow-past d item TooLong (λ other l. absurd (none_below other l)) short where
-  none_below : (other : SiteCode) → ¬ (code_number other < 1)
-  none_below TooLong l = omega arith
-  none_below Form l = omega arith
-  none_below Shape l = omega arith
-  none_below Range l = omega arith
-  none_below BadName l = omega arith
-  none_below SameName l = omega arith
-  none_below SamePlace l = omega arith
-  none_below UnknownName l = omega arith
-  none_below SamePair l = omega arith
-  none_below InObstacle l = omega arith
-  none_below TooMany l = omega arith
+pub KeepsBelow-line : (d : Draft) (item : RawItem) → ¬ (item ≡ Overlong) → KeepsBelow d item 2
+KeepsBelow-line d item short = KeepsBelow-past d item TooLong (KeepsBelow-none d item) short
 
 -- an item that may stand and whose numbers are all given keeps the first three rules
 pub KeepsBelow-shaped : (d : Draft) (item : RawItem) → ¬ (item ≡ Overlong) → IsTrue (may_stand d item) → IsTrue (is_readable item) → All (λ f. IsSome f.value) (fields_of item) → KeepsBelow d item 4
@@ -122,6 +103,22 @@ refused_exactly d item found first code = (
 -- a good item is not refused
 pub not_refused : (d : Draft) (item : RawItem) → IsGood d item → (code : SiteCode) → (◌≡◌ {A = Result (Unit {0}) BuildFault} (Ok tt) (Err (Refused code))) ↔ IsFirstCode d item code
 not_refused d item good code = (λ e. absurd (cc), λ first. absurd (IsFirstCode-good d item code good first))
+
+-- an item that is none of the three broken lines is no broken line
+pub not_broken : (item : RawItem) → ¬ (item ≡ Unended) → ¬ (item ≡ Missing) → ¬ (item ≡ Overlong) → is_broken_line item ≡ false
+not_broken (AVersion v) u m o = refl
+not_broken (AMode m) u n o = refl
+not_broken (AType c p l) u m o = refl
+not_broken (APoint n x y k) u m o = refl
+not_broken (AnObstacle k) u m o = refl
+not_broken (ACorner x y) u m o = refl
+not_broken (APair a b r) u m o = refl
+not_broken TheEnd u m o = refl
+not_broken Misshapen u m o = refl
+not_broken Stray u m o = refl
+not_broken Unended u m o = absurd (u refl)
+not_broken Missing u m o = absurd (m refl)
+not_broken Overlong u m o = absurd (o refl)
 
 -- what a call says of its success, where it didn't fail
 pub OnOk-at : {T E : Type 0} {P : Type 0} (r : Result T E) → is_err r ≡ false → OnOk r P → P

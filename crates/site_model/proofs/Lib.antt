@@ -13,6 +13,8 @@ pub mod Candidates
 pub mod Costs
 pub mod Cheapest
 pub mod Nearest
+-- what the builder's calls have found of an item where they end
+pub mod Building
 -- the largest capacity
 pub mod Capacities
 -- the clash of two pairs of points

@@ -124,7 +124,3 @@ IsDraft-pushed_pair d e item p pairs same draft good first second said pushed =
     let first_here : p.a < length d.site.points = subst (λ (f : Draft). p.a < length f.site.points) (sym same) first in
     let second_here : p.b < length d.site.points = subst (λ (f : Draft). p.b < length f.site.points) (sym same) second in
     subst (λ (ps : List Pair). IsDraft (record d { stage = 5; site = record d.site { pairs = ps } })) (sym pushed) (IsDraft-pair d p first_here second_here draft good_here)
-
--- some rule of the same rules is on these points
-pub Any-joined_same : (pairs others : List Pair) (i j : ℕ) → pairs ≡ others → Any (λ p. IsTrue (joins i j p)) pairs → Any (λ p. IsTrue (joins i j p)) others
-Any-joined_same pairs others i j same h = subst (λ (ps : List Pair). Any (λ p. IsTrue (joins i j p)) ps) same h

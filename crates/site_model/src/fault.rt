@@ -1,3 +1,5 @@
+ghost use Rattle.std.specs.Prelude.{◌≡◌, true, false};
+
 use cable_definitions::site::SiteCode;
 use thiserror::Error;
 
@@ -24,4 +26,28 @@ pub enum SiteFault {
     Read,
     #[error("out of memory")]
     Memory,
+}
+
+impl SiteFault {
+    /// The refusal of an item, or of a line that is whole.
+    pub fn refused(code: SiteCode, place: u64) -> SiteFault
+        ensures { result ≡ SiteFault.Refused code place false }
+    {
+        SiteFault::Refused {
+            code,
+            place,
+            broken_line: false,
+        }
+    }
+
+    /// The refusal of a line that is missing, too long or without its end.
+    pub fn broken(code: SiteCode, place: u64) -> SiteFault
+        ensures { result ≡ SiteFault.Refused code place true }
+    {
+        SiteFault::Refused {
+            code,
+            place,
+            broken_line: true,
+        }
+    }
 }

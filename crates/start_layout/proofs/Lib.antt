@@ -1,4 +1,4 @@
--- types chosen one after another
+-- cables with one ended elsewhere, and with their cheapest types
 pub mod Choosing
 -- neighbours made by one arc
 pub mod Moving

@@ -6,17 +6,16 @@ use Rattle.std.proofs.lemmas.Option.{slice_get_within, slice_get-get_or}
 use Rattle.std.specs.Prelude.{Any, IfNone, IfSome}
 use Rattle.cable_definitions.specs.declared.cable.Arc.{Arc}
 use Rattle.cable_definitions.specs.declared.cable.Cable.{Cable}
-use Rattle.cable_definitions.specs.declared.cable.Rule.{Rule}
-use Rattle.cable_definitions.specs.declared.cable.Rule.TheVariants.{Range, Candidate, Start, Unjoined, Bend, Lost, Overload, Feeders, Power, Branch, Clash}
 use Rattle.cable_definitions.specs.Site.{Site}
 use Rattle.cable_definitions.specs.Arcs.{AreArcs, IsCandidate}
 use Rattle.cable_definitions.specs.Walk.{cable_out}
-use Rattle.cable_definitions.specs.Layout.{IsCable, Starts, Keeps, IsLegal, IsFirstBroken, cost}
+use Rattle.cable_definitions.specs.Layout.{IsCable, Starts, IsLegal, cost}
 use Rattle.cable_definitions.specs.Part.{end_of, AreCheapTyped, AreNeighbours, IsSettled}
 use Rattle.number_laws.proofs.Keys.{first_at-map, DifferentKeys-map}
 use Rattle.layout_laws.specs.Alike.{StartsDiffer, SameOuts, SameEnds}
 use Rattle.layout_laws.proofs.Alike.{cable_out-from, cable_out-place, cable_out-of, Starts-same, IsLegal-ordered, cost-ordered}
 use Rattle.layout_laws.proofs.Arcs.{SameEnds-from_arcs, with_grades_of, with_grades_of-arcs, with_grades_of-differ, with_grades_of-outs}
+pub use Rattle.layout_laws.proofs.Legal.{broken_not_legal as not_legal}
 use Rattle.layout_laws.proofs.Typing.{all-at, some_cheap_typed}
 use Rattle.layout_laws.proofs.Typed.{IsLegal-cheap, cost-legal, cheap_typed-same}
 use Rattle.start_layout.specs.Moves.{re_ended, with_end, MakesLegal, MakesNoneBelow, AllMakeNoneBelow, IsMove, IsMoveOrNone, IsBestMove}
@@ -198,24 +197,6 @@ not_settled s cables typed least a t move h =
     omega (arith, made.1, move.cheaper)
 
 -- ---- what judging a neighbour finds
--- a legal layout keeps each rule at each place
-kept_where_legal : (s : Site) (cables : List Cable) → IsLegal s cables → (rule : Rule) (i j : ℕ) → Keeps s cables rule i j
-kept_where_legal s cables l Range i j = l.range i
-kept_where_legal s cables l Candidate i j = l.candidate i
-kept_where_legal s cables l Start i j = l.start i
-kept_where_legal s cables l Unjoined p j = l.joined p
-kept_where_legal s cables l Bend p j = l.bend p
-kept_where_legal s cables l Lost p j = l.ends p
-kept_where_legal s cables l Overload p j = l.capacity p
-kept_where_legal s cables l Feeders p j = l.feeders p
-kept_where_legal s cables l Power p j = l.power p
-kept_where_legal s cables l Branch p j = l.string p
-kept_where_legal s cables l Clash a b = l.clear a b
-
--- so none of them is broken
-pub not_legal : (s : Site) (cables : List Cable) (rule : Rule) (a b : ℕ) → IsFirstBroken s cables rule a b → ¬ (IsLegal s cables)
-not_legal s cables rule a b broken l = broken.broken (kept_where_legal s cables l rule broken.place broken.second_place)
-
 -- an arc makes nothing where its cheapest types aren't legal
 pub none_where_illegal : (s : Site) (cables tried : List Cable) (bound : ℕ) (arc : Arc) → AreCheapTyped s (with_end cables arc.from arc.to) tried → ¬ (IsLegal s tried) → MakesNoneBelow s cables bound arc
 none_where_illegal s cables tried bound arc t not h typed u l = absurd (not (subst (IsLegal s) (cheap_typed-same s (with_end cables arc.from arc.to) typed tried u t) l))

@@ -1,12 +1,10 @@
 -- One cable ended elsewhere, and what that makes.
-use Rattle.std.specs.Prelude.{◌≡◌, ℕ, ◌<◌, ◌≤◌, ◌⊎◌, ◌==◌, cond, List, length, map, slice_get, Option, None, Some}
+use Rattle.std.specs.Prelude.{◌≡◌, ℕ, ◌<◌, ◌≤◌, ◌==◌, cond, List, length, map, slice_get, Option, None, Some}
 use Rattle.cable_definitions.specs.declared.cable.Arc.{Arc}
 use Rattle.cable_definitions.specs.declared.cable.Cable.{Cable}
 use Rattle.cable_definitions.specs.Site.{Site}
-use Rattle.cable_definitions.specs.Arcs.{Bears, IsCheapest}
-use Rattle.cable_definitions.specs.Walk.{load}
-use Rattle.cable_definitions.specs.Layout.{IsCable, IsLegal, Starts, cost}
-use Rattle.cable_definitions.specs.Part.{SameArcs, AreCheapTyped}
+use Rattle.cable_definitions.specs.Layout.{IsLegal, Starts, cost}
+use Rattle.cable_definitions.specs.Part.{AreCheapTyped}
 
 -- the cable, which ends in q if it starts in p
 abbrev pub re_ended : ℕ → ℕ → Cable → Cable
@@ -15,15 +13,6 @@ re_ended p q c = record { from = c.from; to = cond (c.from == p) q c.to; grade =
 -- the same cables, of which those out of p end in q
 abbrev pub with_end : List Cable → ℕ → ℕ → List Cable
 with_end cables p q = map (re_ended p q) cables
-
--- the cheapest type that bears the load, or type 0 where none does
-abbrev pub IsCheapOrNone : Site → ℕ → ℕ → ℕ → ℕ → Type 0
-IsCheapOrNone s from to load grade = IsCheapest s from to load grade ⊎ (((other : ℕ) → ¬ (Bears s other load)) × (grade ≡ 0))
-
--- the same cables, each of such a type at the load that a whole list gives it
-pub record AreTypedIn (s : Site) (whole cables typed : List Cable) : Type 0 where
-  pub arcs : SameArcs typed cables
-  pub types : (i : ℕ) (c : Cable) → IsCable typed i c → IsCheapOrNone s c.from c.to (load s whole c.from) c.grade
 
 -- with this arc's end the cheapest types make a legal layout of this cost
 abbrev pub MakesLegal : Site → List Cable → Arc → ℕ → Type 0

@@ -4,13 +4,12 @@ ghost use Rattle.std.specs.Prelude.{◌≡◌, ℕ, ◌<◌, ◌≤◌, List, le
 ghost use Rattle.cable_definitions.specs.declared.cable.Cable.{Cable as ACable};
 ghost use Rattle.cable_definitions.specs.Site.{Site as ASite, IsValid};
 ghost use Rattle.cable_definitions.specs.Layout.{KeepsRange, Starts};
-ghost use Rattle.layout_meaning.specs.Loads.{AreLoads};
 ghost use Rattle.start_layout.specs.Moves.{MakesNoneBelow};
 ghost use Rattle.start_layout.specs.Floors.{without, IsLeastCost, AreOthersAbove, AreLeasts, IsFloor};
 
 use crate::circles::MOST_STEPS;
 use candidate_cables::Arc;
-use layout_meaning::{Cable, Layout, Outgoing, all_loads};
+use layout_meaning::{Cable, Flows, Layout, Outgoing};
 use site_model::Site;
 
 /// What each legal layout costs at least that differs from a list of cables in where the cable out of one point ends. What is known of single
@@ -55,17 +54,17 @@ fn least_cost(site: &Site, from: u32, to: u32, load: u32) -> u64
     }
 }
 
-/// What each cable but that out of a point costs at least, in cost units, from the loads without that one.
-fn least_costs(site: &Site, cables: &Outgoing, start: u32, loads: &[u32; 256]) -> [u64; 256]
+/// What each cable but that out of a point costs at least, in cost units, from the others with their loads without that one.
+fn least_costs(site: &Site, cables: &Outgoing, start: u32, others: &Flows) -> [u64; 256]
     requires range { (i : ℕ) → KeepsRange site.now cables.now i }
-    requires loads { AreLoads site.now (without start cables.now) loads.now }
+    requires others { others.now ≡ record { site = site.now; cables = without start cables.now } }
     ensures { (q : ℕ) → AreLeasts site.now cables.now start q result }
 {
     let mut leasts = [0; 256];
     for p in 0..site.points().len() as u32 {
         if p != start {
             if let Some(cable) = cables.cable_out(p) {
-                leasts[p as usize] = least_cost(site, p, cable.to, loads[p as usize]);
+                leasts[p as usize] = least_cost(site, p, cable.to, others.load(p));
             }
         }
     }
@@ -109,15 +108,15 @@ fn floor_at(site: &Site, cables: &Outgoing, start: u32, trial: &mut Layout) -> F
     ensures start { result.start ≡ start }
 {
     leave_out(cables.cables(), start, trial);
-    let loads = all_loads(site, &Outgoing::new(trial.cables()));
-    let leasts = least_costs(site, cables, start, &loads);
+    let flows = Flows::new(site, Outgoing::new(trial.cables()));
+    let leasts = least_costs(site, cables, start, &flows);
     let others = others_cost(site, cables.cables(), start, &leasts);
-    let load = loads[start as usize];
+    let load = flows.load(start);
     Floor {
         start,
         others,
         leasts,
-        loads,
+        loads: flows.into_loads(),
         load,
     }
 }

@@ -6,7 +6,6 @@ ghost use Rattle.cable_definitions.specs.Part.{IsBlocked};
 ghost use Rattle.layout_meaning.specs.Joining.{IsUnjoined};
 ghost use Rattle.start_layout.specs.Starting.{AllBlocked};
 
-use crate::straight::{is_substation, is_turbine, power_at};
 use candidate_cables::Arcs;
 use layout_meaning::{Outgoing, PartialLayout};
 use site_model::Site;
@@ -28,10 +27,10 @@ pub(crate) struct Choice {
 fn way_in_cost(site: &Site, from: u32) -> u64
     requires from { from < length site.now.points }
 {
-    let power = power_at(site, from);
+    let power = site.power(from);
     let mut least = u64::MAX;
     for to in 0..site.points().len() as u32 {
-        if is_substation(site, to) {
+        if site.kind(to).is_substation() {
             if let Some((grade, cost)) = site.cheapest(from, to, power) {
                 least = least.min(cost);
             }
@@ -50,7 +49,7 @@ fn list_choices(
     requires arcs { AreArcs site.now arcs.now }
     requires turbine { turbine < length site.now.points }
 {
-    let power = power_at(site, turbine);
+    let power = site.power(turbine);
     let way_in = way_in_cost(site, turbine);
     let count = site.points().len();
     let (first, past) = arcs.out_of(turbine);
@@ -81,7 +80,7 @@ pub(crate) fn all_choices(
 {
     let mut choices = Vec::new(alloc);
     for turbine in 0..site.points().len() as u32 {
-        if is_turbine(site, turbine) {
+        if site.kind(turbine).is_turbine() {
             list_choices(&mut choices, site, arcs, turbine)?;
         }
     }
@@ -100,10 +99,7 @@ fn is_open(site: &Site, part: &Outgoing, choice: Choice) -> bool {
     if part.starts(choice.to) {
         return true;
     }
-    if (choice.to as usize) < site.points().len() {
-        return is_substation(site, choice.to);
-    }
-    false
+    site.kind(choice.to).is_substation()
 }
 
 /// The first open arc from a place on.

@@ -10,9 +10,9 @@ ghost use Rattle.start_layout.specs.Floors.{IsFloor};
 
 use crate::circles::is_open;
 use crate::floors::{Floor, is_dear, move_floor, no_floor};
-use crate::types::{cost_at, with_end};
+use crate::types::with_end;
 use candidate_cables::{Arc, Arcs};
-use layout_meaning::{Cable, Layout, Outgoing, Verdict, judge};
+use layout_meaning::{Layout, Outgoing, Verdict, judge};
 use site_model::Site;
 use std::alloc::{AllocError, Global};
 
@@ -33,20 +33,9 @@ pub fn improve_layout(
 {
     let mut better = Layout::new(alloc)?;
     let mut trial = Layout::new(alloc)?;
-    replace(&mut better, layout.cables());
+    better.replace(layout.cables());
     settle(site, arcs, &mut better, &mut trial);
     Ok(better)
-}
-
-/// Replaces the cables of a layout.
-fn replace(into: &mut Layout, cables: &[Cable])
-    requires { length cables.now ≤ 256 }
-    ensures { into.new ≡ cables.now }
-{
-    into.clear();
-    for cable in cables {
-        let _ = into.push(*cable);
-    }
 }
 
 /// The cost of a legal layout, in cost units.
@@ -71,7 +60,7 @@ fn settle(site: &Site, arcs: &Arcs, layout: &mut Layout, trial: &mut Layout)
     let mut cost = cost_of(site, layout);
     while let Some(arc) = best_move(site, arcs, &Outgoing::new(layout.cables()), cost, trial) {
         let _ = with_end(site, layout.cables(), arc, trial);
-        replace(layout, trial.cables());
+        layout.replace(trial.cables());
         cost = cost_of(site, layout);
     }
 }
@@ -101,8 +90,7 @@ fn cost_below(
     if is_dear(site, cables, arc, floor, bound) {
         return None;
     }
-    let loads = with_end(site, cables.cables(), arc, trial);
-    let cost = cost_at(site, trial.cables(), &loads)?;
+    let cost = with_end(site, cables.cables(), arc, trial)?;
     if cost >= bound {
         return None;
     }

@@ -2,50 +2,14 @@
 
 ghost use Rattle.std.specs.Prelude.{◌≡◌, ℕ, ◌+◌, ◌<◌, ◌↔◌, List, length, IsTrue, IfOk, IfSome, IfNone};
 ghost use Rattle.cable_definitions.specs.declared.cable.Cable.{Cable as ACable};
-ghost use Rattle.cable_definitions.specs.Arcs.{AreArcs, IsCandidate, kind_of, is_turbine as is_turbine_of, is_substation as is_substation_of, power_of};
+ghost use Rattle.cable_definitions.specs.Arcs.{AreArcs, IsCandidate};
 ghost use Rattle.cable_definitions.specs.Part.{IsStraight, IsStraightCable};
 ghost use Rattle.start_layout.specs.Straight.{IsWayIn, IsBestTo, IsBestWayBelow, AreStraightBelow};
 
 use candidate_cables::Arcs;
 use layout_meaning::{Cable, Layout};
-use site_model::{Kind, Site};
+use site_model::Site;
 use std::alloc::{AllocError, Global};
-
-/// The power that a point feeds in, in power units.
-pub(crate) fn power_at(site: &Site, p: u32) -> u32
-    requires { p < length site.now.points }
-    ensures { result ≡ power_of site.now p }
-{
-    match site.points()[p as usize].kind {
-        Kind::Turbine { power } => power,
-        Kind::Substation { feeders, power } => 0,
-        Kind::Bend => 0,
-    }
-}
-
-/// Whether a turbine stands at a point.
-pub(crate) fn is_turbine(site: &Site, p: u32) -> bool
-    requires { p < length site.now.points }
-    ensures { IsTrue result ↔ IsTrue (is_turbine_of (kind_of site.now p)) }
-{
-    match site.points()[p as usize].kind {
-        Kind::Turbine { power } => true,
-        Kind::Substation { feeders, power } => false,
-        Kind::Bend => false,
-    }
-}
-
-/// Whether a substation stands at a point.
-pub(crate) fn is_substation(site: &Site, p: u32) -> bool
-    requires { p < length site.now.points }
-    ensures { IsTrue result ↔ IsTrue (is_substation_of (kind_of site.now p)) }
-{
-    match site.points()[p as usize].kind {
-        Kind::Turbine { power } => false,
-        Kind::Substation { feeders, power } => true,
-        Kind::Bend => false,
-    }
-}
 
 /// Whether a candidate arc leads from one point to another.
 fn is_arc(site: &Site, arcs: &Arcs, from: u32, to: u32) -> bool
@@ -66,13 +30,13 @@ fn cable_to(site: &Site, arcs: &Arcs, from: u32, to: u32) -> Option<(Cable, u64)
     requires to { to < length site.now.points }
     ensures { IsBestTo site.now from to result }
 {
-    if !is_substation(site, to) {
+    if !site.kind(to).is_substation() {
         return None;
     }
     if !is_arc(site, arcs, from, to) {
         return None;
     }
-    let power = power_at(site, from);
+    let power = site.power(from);
     match site.cheapest(from, to, power) {
         None => None,
         Some((grade, cost)) => Some((Cable { from, to, grade }, cost)),
@@ -133,7 +97,7 @@ pub(crate) fn straight_layout(
 {
     let mut layout = Layout::new(alloc)?;
     for turbine in 0..site.points().len() as u32 {
-        if is_turbine(site, turbine) {
+        if site.kind(turbine).is_turbine() {
             match straight_cable(site, arcs, turbine) {
                 None => return Ok(None),
                 Some((cable, cost)) => {

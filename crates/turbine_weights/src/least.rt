@@ -3,24 +3,14 @@
 ghost use Rattle.std.specs.Prelude.{◌≡◌, ◌≢◌, ℕ, ◌≤◌, ◌<◌, length, slice_get, Some, IfSome, IfNone};
 ghost use Rattle.cable_definitions.specs.declared.cable.Arc.{Arc as AnArc};
 ghost use Rattle.cable_definitions.specs.declared.row.Mark.TheVariants.{Unused};
-ghost use Rattle.cable_definitions.specs.Arcs.{AreArcs, power_of_kind};
+ghost use Rattle.cable_definitions.specs.Arcs.{AreArcs};
 ghost use Rattle.site_model.specs.Best.{most_cost};
 ghost use Rattle.turbine_weights.specs.Turbines.{IsLeft, IsLeastLeft};
 ghost use Rattle.turbine_weights.specs.Least.{IsOwnCost, lesser_cost as lesser_of};
 
 use bound_value::{Decisions, Mark};
 use candidate_cables::{Arc, Arcs};
-use site_model::{Kind, Site};
-
-/// What a point feeds in.
-fn power_of(kind: Kind) -> u32
-    ensures { result ≡ power_of_kind kind }
-{
-    match kind {
-        Kind::Turbine { power } => power,
-        _ => 0,
-    }
-}
+use site_model::Site;
 
 /// The least cost of an arc under the types that bear the power of its start, with that power as load. None where it is marked unused.
 fn cost_left(site: &Site, arcs: &Arcs, decisions: &Decisions, number: u32) -> Option<u64>
@@ -36,7 +26,7 @@ fn cost_left(site: &Site, arcs: &Arcs, decisions: &Decisions, number: u32) -> Op
         return None;
     }
     let Arc { from, to, .. } = arcs.get(number);
-    let power = power_of(site.points()[from as usize].kind);
+    let power = site.points()[from as usize].kind.power();
     match site.cheapest(from, to, power) {
         Some((_, cost)) => Some(cost),
         // Some type bears the power of the start of a candidate arc.

@@ -6,5 +6,5 @@ use Rattle.plan_report.proofs.sums.cost_of_type.Given as goal
 abbrev pub invariant-loop-cable : goal.invariant-loop-cable
 invariant-loop-cable l = record {
   bound : l.total ≤ 28400000000000000 * l.cable-index;
-  total : l.total ≡ sum_by (cable_cost l.site l.cables) (of_type (take l.cable-index l.cables) l.grade);
+  total : l.total ≡ sum_by (cable_cost l.flows.site l.flows.cables) (of_type (take l.cable-index l.cables) l.grade);
 }

@@ -7,5 +7,5 @@ use Rattle.plan_report.proofs.write.push_cables.Given as goal
 
 abbrev pub invariant-loop-cable : goal.invariant-loop-cable
 invariant-loop-cable g l =
-    Writes {A = Unit {0}} {E = Failed} (Ok tt) (g.O.Sink.taken l.initial.out) (g.O.Sink.taken l.out) (g.O.Sink.faults l.initial.out) (g.O.Sink.faults l.out)
-    (concat (map (report_cable l.site l.cables) (take l.cable-index l.cables)))
+    Writes {A = Unit {0}} {E = Failed} (Ok tt) (g.O.Sink.state l.initial.out) (g.O.Sink.state l.out)
+    (concat (map (report_cable l.flows.site l.flows.cables) (take l.cable-index l.flows.cables)))

@@ -8,5 +8,5 @@ use Rattle.plan_report.proofs.write.push_points.Given as goal
 
 abbrev pub invariant-loop-p : goal.invariant-loop-p
 invariant-loop-p g l =
-    Writes {A = Unit {0}} {E = Failed} (Ok tt) (g.O.Sink.taken l.initial.out) (g.O.Sink.taken l.out) (g.O.Sink.faults l.initial.out) (g.O.Sink.faults l.out)
-    (concat (map (λ (q : ℕ × Point). report_point l.site l.cables q.0 q.1.name q.1.kind) (take l.p (enumerate_from 0 l.site.points))))
+    Writes {A = Unit {0}} {E = Failed} (Ok tt) (g.O.Sink.state l.initial.out) (g.O.Sink.state l.out)
+    (concat (map (λ (q : ℕ × Point). report_point l.flows.site l.flows.cables q.0 q.1.name q.1.kind) (take l.p (enumerate_from 0 l.flows.site.points))))

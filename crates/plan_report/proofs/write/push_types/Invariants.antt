@@ -8,5 +8,5 @@ use Rattle.plan_report.proofs.write.push_types.Given as goal
 
 abbrev pub invariant-loop-grade : goal.invariant-loop-grade
 invariant-loop-grade g l =
-    Writes {A = Unit {0}} {E = Failed} (Ok tt) (g.O.Sink.taken l.initial.out) (g.O.Sink.taken l.out) (g.O.Sink.faults l.initial.out) (g.O.Sink.faults l.out)
-    (concat (map (λ (q : ℕ × CableType). report_type l.site l.cables q.0) (take l.grade (enumerate_from 0 l.site.types))))
+    Writes {A = Unit {0}} {E = Failed} (Ok tt) (g.O.Sink.state l.initial.out) (g.O.Sink.state l.out)
+    (concat (map (λ (q : ℕ × CableType). report_type l.flows.site l.flows.cables q.0) (take l.grade (enumerate_from 0 l.flows.site.types))))

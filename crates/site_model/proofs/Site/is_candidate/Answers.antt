@@ -27,12 +27,7 @@ returns c =
 
 pub returns-then-not-passes_none : goal.returns-then-not-passes_none
 returns-then-not-passes_none c =
-    let s = c.args.self.now in
-    let p = c.args.from in
-    let q = c.args.to in
-    let from = c.index-points-from.result in
-    let to = c.index-points-to.result in
-    let from_is = point_is s c.points.result.now p from c.points.ensures.value c.requires.from c.index-points-from.is in
-    let to_is = point_is s c.points-2.result.now q to c.points-2.ensures.value c.requires.to c.index-points-to.is in
-    let passes = subst (λ (points : List Point). IsTrue c.passes_none.result ↔ PassesNone points p q from.at to.at) c.points-3.ensures.value c.passes_none.ensures in
-    (λ e. absurd (false≢true e), λ k. absurd (denied c.passes_none.result passes c.if-not-passes_none.true (candidate_passes s p q from to from_is to_is k)))
+    let from_is = point_is c.args.self.now c.points.result.now c.args.from c.index-points-from.result c.points.ensures.value c.requires.from c.index-points-from.is in
+    let to_is = point_is c.args.self.now c.points-2.result.now c.args.to c.index-points-to.result c.points-2.ensures.value c.requires.to c.index-points-to.is in
+    let passes = subst (λ (points : List Point). IsTrue c.passes_none.result ↔ PassesNone points c.args.from c.args.to c.index-points-from.result.at c.index-points-to.result.at) c.points-3.ensures.value c.passes_none.ensures in
+    (λ e. absurd (false≢true e), λ k. absurd (denied c.passes_none.result passes c.if-not-passes_none.true (candidate_passes c.args.self.now c.args.from c.args.to c.index-points-from.result c.index-points-to.result from_is to_is k)))

@@ -15,16 +15,12 @@ returns-in_err-power-in-Turbine c =
 
 pub returns-in_err-feeders-in-Substation : goal.returns-in_err-feeders-in-Substation
 returns-in_err-feeders-in-Substation c =
-    let feeders = c.in-Substation.feeders in
-    let power = c.in-Substation.power in
-    let fits : FitsSigned w128 feeders = search rules in
+    let fits : FitsSigned w128 c.in-Substation.feeders = search rules in
     rw (c.from_residual-in_err-feeders-in-Substation.ensures, c.in-Substation.is)
-    (All-IsWithin-not (kind_fields (kind_item (Substation feeders power))) 0 feeders (pos 0) (pos 256) (omega arith) refl fits c.in_err-feeders-in-Substation.ensures)
+    (All-IsWithin-not (kind_fields (kind_item (Substation c.in-Substation.feeders c.in-Substation.power))) 0 c.in-Substation.feeders (pos 0) (pos 256) (omega arith) refl fits c.in_err-feeders-in-Substation.ensures)
 
 pub returns-in_err-power-in-Substation : goal.returns-in_err-power-in-Substation
 returns-in_err-power-in-Substation c =
-    let feeders = c.in-Substation.feeders in
-    let power = c.in-Substation.power in
-    let fits : FitsSigned w128 power = search rules in
+    let fits : FitsSigned w128 c.in-Substation.power = search rules in
     rw (c.from_residual-in_err-power-in-Substation.ensures, c.in-Substation.is)
-    (All-IsWithin-not (kind_fields (kind_item (Substation feeders power))) 1 power (pos 0) (pos 300000) (omega arith) refl fits c.in_err-power-in-Substation.ensures)
+    (All-IsWithin-not (kind_fields (kind_item (Substation c.in-Substation.feeders c.in-Substation.power))) 1 c.in-Substation.power (pos 0) (pos 300000) (omega arith) refl fits c.in_err-power-in-Substation.ensures)

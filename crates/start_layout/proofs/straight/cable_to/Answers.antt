@@ -9,7 +9,7 @@ returns-in-Some c =
     let p = c.args.from in
     let q = c.args.to in
     let grade = c.in-Some.grade in
-    let power = c.power_at-power.ensures in
-    least_to s p q grade c.in-Some.cost (c.is_arc.ensures.0 c.if-not-is_arc.false) (c.is_substation.ensures.0 c.if-not-is_substation.false)
+    let power = c.power-power.ensures.power in
+    least_to s p q grade c.in-Some.cost (c.is_arc.ensures.0 c.if-not-is_arc.false) (cc)
     (subst (λ (x : ℕ). IsCheapest s p q x grade) power c.in-Some.ensures.grade)
     (subst (λ (x : ℕ). c.in-Some.cost ≡ cost_of s p q grade x) power c.in-Some.ensures.cost)

@@ -6,7 +6,7 @@ use Rattle.start_layout.proofs.straight.straight_layout.Goals as goal
 use Rattle.start_layout.proofs.straight.straight_layout.Goals.{then-is_turbine+in-Some, else-is_turbine}
 
 pub returns-in-None-clause-none : goal.returns-in-None-clause-none
-returns-in-None-clause-none c = none_straight c.args.site.now c.loop-turbine.turbine (c.is_turbine.ensures.0 c.if-is_turbine.true) c.in-None.ensures
+returns-in-None-clause-none c = none_straight c.args.site.now c.loop-turbine.turbine (cc) c.in-None.ensures
 
 pub loop-turbine-preserved : goal.loop-turbine-preserved
 loop-turbine-preserved c =
@@ -23,9 +23,9 @@ loop-turbine-preserved c =
           let room : length layout < 256 = omega (arith, count, known.count, valid.points_count) in
           let pushed = pushed_on w.push.result layout w.push.new.self cable w.push.ensures.full.0 w.push.ensures.ok room in
           subst (AreStraightBelow s (p + 1)) (sym (w.layout-is ∙ pushed))
-          (straight_more s p layout cable (c.is_turbine.ensures.0 w.if-is_turbine.true) best.priced.from (straight_best s p cable w.in-Some.cost best) known))
+          (straight_more s p layout cable (cc) best.priced.from (straight_best s p cable w.in-Some.cost best) known))
       | else-is_turbine w ↦ (
-          let other = straight_pass s p layout (λ t. let h = c.is_turbine.ensures.1 t in absurd (cc)) known in
+          let other = straight_pass s p layout (λ t. absurd (cc)) known in
           subst (AreStraightBelow s (p + 1)) (sym w.layout-is) other)
     ]
 

@@ -1,20 +1,19 @@
-use Rattle.std.proofs.Common.{List, ◌∙◌, subst}
-use Rattle.cable_definitions.specs.declared.cable.Cable.{Cable}
-use Rattle.layout_meaning.specs.Loads.{AreLoads}
+use Rattle.std.proofs.Common.{sym, ◌∙◌, subst}
+use Rattle.layout_meaning.specs.Partial.{SitePart}
+use Rattle.layout_meaning.specs.Typed.{JoinPoints}
+use Rattle.layout_meaning.proofs.Flowing.{flows_are}
 use Rattle.start_layout.specs.Moves.{with_end}
-use Rattle.start_layout.proofs.Choosing.{cheap_typed, range_typed, loads_typed}
+use Rattle.start_layout.proofs.Choosing.{ended_joins}
 use Rattle.start_layout.proofs.types.with_end.Goals as goal
 
-pub returns-clause-typed : goal.returns-clause-typed
-returns-clause-typed c = cheap_typed c.args.site.now (with_end c.args.cables.now c.args.arc.from c.args.arc.to) c.choose_types.new.into c.choose_types.ensures
+pub cheapest_types-typed-requires-clause-points : goal.cheapest_types-typed-requires-clause-points
+cheapest_types-typed-requires-clause-points c =
+    let ended = with_end c.args.cables.now c.args.arc.from c.args.arc.to in
+    let flows = flows_are c.args.site.now c.new.result ended c.new-flows.result c.new-flows.ensures (c.new.ensures ∙ c.as_slice.ensures.value ∙ c.re_end-ended.ensures) in
+    subst (λ (f : SitePart). JoinPoints f.site f.cables) (sym flows) (ended_joins c.args.site.now c.args.cables.now c.args.arc.from c.args.arc.to c.requires.range c.requires.to)
 
-pub returns-clause-range : goal.returns-clause-range
-returns-clause-range c =
-    range_typed c.args.site.now c.args.cables.now c.choose_types.new.into c.args.arc.from c.args.arc.to c.all_loads-loads.ensures.valid.some_types c.requires.range c.requires.to
-    (cheap_typed c.args.site.now (with_end c.args.cables.now c.args.arc.from c.args.arc.to) c.choose_types.new.into c.choose_types.ensures)
-
-pub returns-clause-loads : goal.returns-clause-loads
-returns-clause-loads c =
-    loads_typed c.args.site.now (with_end c.args.cables.now c.args.arc.from c.args.arc.to) c.choose_types.new.into c.all_loads-loads.result
-    (cheap_typed c.args.site.now (with_end c.args.cables.now c.args.arc.from c.args.arc.to) c.choose_types.new.into c.choose_types.ensures)
-    (subst (λ (xs : List Cable). AreLoads c.args.site.now xs c.all_loads-loads.result) (c.new.ensures ∙ c.cables.ensures.value ∙ c.re_end.ensures) c.all_loads-loads.ensures)
+pub cost_of_typed-requires-clause-points : goal.cost_of_typed-requires-clause-points
+cost_of_typed-requires-clause-points c =
+    let ended = with_end c.args.cables.now c.args.arc.from c.args.arc.to in
+    let flows = flows_are c.args.site.now c.new.result ended c.new-flows.result c.new-flows.ensures (c.new.ensures ∙ c.as_slice.ensures.value ∙ c.re_end-ended.ensures) in
+    subst (λ (f : SitePart). JoinPoints f.site f.cables) (sym flows) (ended_joins c.args.site.now c.args.cables.now c.args.arc.from c.args.arc.to c.requires.range c.requires.to)

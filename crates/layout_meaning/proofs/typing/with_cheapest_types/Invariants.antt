@@ -1,9 +1,0 @@
-use Rattle.std.proofs.Common.{◌≡◌, length, take}
-use Rattle.layout_meaning.specs.Typed.{AreTyped}
-use Rattle.layout_meaning.proofs.typing.with_cheapest_types.Given as goal
-
-abbrev pub invariant-loop-cable : goal.invariant-loop-cable
-invariant-loop-cable l = record {
-  count : length l.typed ≡ l.cable-index;
-  typed : AreTyped l.site l.cables (take l.cable-index l.cables) l.typed;
-}
