@@ -1,4 +1,4 @@
--- Lawful weights, weight by weight.
+-- For callers too: lawful weights, weight by weight.
 use Rattle.std.proofs.Common.{◌≡◌, ℕ, zero, suc, ◌+◌, ◌≤◌, ◌<◌, inl, inr, ◌⊎◌, ℤ, pos, ◌<ℤ◌, List, [], ◌∷◌, length, get_or, slice_get, Some, None, Bool, true, false, below_more, refl, ap, ◌∙◌, subst, arith}
 use Rattle.std.specs.Prelude.{IsTrue}
 use Rattle.std.proofs.lemmas.Int.{ints}

@@ -10,5 +10,7 @@ pub mod Weighing
 pub mod Listing
 -- what weights count by the ends of arcs
 pub mod Tables
--- weights on sets that may count an arc, and what all weights count an arc as
+-- what weights count an arc as, and what a choice leaves then
+pub mod Counting
+-- weights on sets that may count an arc
 pub mod NearSets

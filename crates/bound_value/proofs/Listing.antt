@@ -1,8 +1,10 @@
--- Weights that pass a test, weight by weight.
-use Rattle.std.proofs.Common.{◌≡◌, ℕ, ◌+◌, ◌<◌, ◌≤◌, inl, inr, ℤ, Bool, true, false, cond, List, [], ◌∷◌, ◌++◌, length, get_or, take, refl, ap, sym, ◌∙◌, arith}
+-- For callers too: weights that pass a test, weight by weight.
+use Rattle.std.proofs.Common.{◌≡◌, ℕ, ◌+◌, ◌<◌, ◌≤◌, inl, inr, ℤ, pos, Bool, true, false, cond, List, [], ◌∷◌, ◌++◌, length, get_or, take, refl, ap, sym, ◌∙◌, arith}
 use Rattle.std.specs.Prelude.{filter}
+use Rattle.std.proofs.lemmas.List.{length-take-le}
 use Rattle.std.proofs.lemmas.List.Elements.{filter_more}
 use Rattle.proof_laws.proofs.Lists.{true_or_false}
+use Rattle.bound_value.proofs.LawfulWeights.{weight_read}
 
 -- one more that passes, and one more that doesn't
 pub filter_passing : (test : ℕ × ℤ → Bool) (ws : List (ℕ × ℤ)) (i : ℕ) (w : ℕ × ℤ) → i < length ws → w ≡ get_or ws i w → test w ≡ true → filter test (take (i + 1) ws) ≡ filter test (take i ws) ++ w ∷ []
@@ -24,3 +26,24 @@ length-filter-le test (w ∷ ws) = elim (true_or_false (test w)) [
   | inl e ↦ rw e (let k = length-filter-le test ws in omega (arith, k))
   | inr e ↦ rw e (let k = length-filter-le test ws in omega (arith, k))
 ]
+
+-- Those that passed so far leave room for one more.
+pub room_left : (test : ℕ × ℤ → Bool) (ws items passed : List (ℕ × ℤ)) (i : ℕ) → items ≡ ws → i < length items → length ws ≤ 1024 → passed ≡ filter test (take i ws) → length passed < 1024
+room_left test ws items passed i e l few p =
+    let same = ap (length {A = ℕ × ℤ}) e in
+    let within : i < length ws = omega (arith, same, l) in
+    let q = ap (length {A = ℕ × ℤ}) p in
+    omega (arith, q, length-filter-le test (take i ws), length-take-le i ws (omega arith), within, few)
+
+-- The weight that was read next was put behind those that passed, where it passes itself; or they are left as they are, where it doesn't.
+pub passing_kept : (test : ℕ × ℤ → Bool) (ws items passed new : List (ℕ × ℤ)) (i : ℕ) → items ≡ ws → i < length items → passed ≡ filter test (take i ws) → test (get_or items i (0, pos 0)) ≡ true → new ≡ passed ++ get_or items i (0, pos 0) ∷ [] → new ≡ filter test (take (i + 1) ws)
+passing_kept test ws items passed new i e l p t n =
+    let w = get_or items i (0, pos 0) in
+    let within : i < length ws = omega (arith, ap (length {A = ℕ × ℤ}) e, l) in
+    n ∙ ap (λ (xs : List (ℕ × ℤ)). xs ++ w ∷ []) p ∙ sym (filter_passing test ws i w within (weight_read items ws i (0, pos 0) e within) t)
+
+pub failing_left_out : (test : ℕ × ℤ → Bool) (ws items passed new : List (ℕ × ℤ)) (i : ℕ) → items ≡ ws → i < length items → passed ≡ filter test (take i ws) → test (get_or items i (0, pos 0)) ≡ false → new ≡ passed → new ≡ filter test (take (i + 1) ws)
+failing_left_out test ws items passed new i e l p t n =
+    let w = get_or items i (0, pos 0) in
+    let within : i < length ws = omega (arith, ap (length {A = ℕ × ℤ}) e, l) in
+    n ∙ p ∙ sym (filter_failing test ws i w within (weight_read items ws i (0, pos 0) e within) t)

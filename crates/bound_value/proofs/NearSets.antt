@@ -1,33 +1,20 @@
--- Weights on sets that may count an arc, and what all weights count an arc as.
-use Rattle.std.proofs.Common.{◌≡◌, ◌≢◌, ℕ, ◌^◌, ◌<◌, ◌≤◌, inl, inr, ℤ, pos, neg_ℤ, ◌+ℤ◌, ◌*ℤ◌, ◌≤ℤ◌, unsigned_abs, cond, Bool, true, false, List, [], ◌∷◌, length, get_or, slice_get, Option, Some, None, refl, ap, sym, ◌∙◌, subst, arith}
-use Rattle.std.specs.Prelude.{◌&&◌, not, IsTrue, nat_lt, ◌==◌}
+-- Weights on sets that may count an arc.
+use Rattle.std.proofs.Common.{◌≡◌, ℕ, ◌<◌, ◌≤◌, inl, inr, ℤ, pos, neg_ℤ, ◌+ℤ◌, ◌*ℤ◌, cond, Bool, true, false, List, [], ◌∷◌, length, slice_get, Option, Some, None, refl, ap, sym, ◌∙◌, subst, arith}
+use Rattle.std.specs.Prelude.{◌&&◌, not, nat_lt, ◌==◌}
 use Rattle.std.specs.List.{list_any}
 use Rattle.std.proofs.lemmas.Bool.{le-ltb, lt-ltb, cases_lt, eqb-true}
 use Rattle.std.proofs.lemmas.Int.{ints}
-use Rattle.std.proofs.lemmas.List.Elements.{All-filter}
-use Rattle.std.proofs.lemmas.List.Kept.{AllPairs-filter}
 use Rattle.cable_definitions.specs.declared.cable.Arc.{Arc}
 use Rattle.cable_definitions.specs.declared.row.RowKind.{RowKind}
 use Rattle.cable_definitions.specs.declared.row.RowKind.TheVariants.{Out, Flow, Inlet, Bend, Power, One, Cut}
-use Rattle.cable_definitions.specs.Row.{Row, is_member, one_if, on_use, on_load, is_equation}
-use Rattle.cable_definitions.specs.Choice.{AreLawful, at_row, sum_weighted, weighted_on_use, weighted_on_load}
+use Rattle.cable_definitions.specs.Row.{Row, is_member, one_if, on_use, on_load}
+use Rattle.cable_definitions.specs.Choice.{AreLawful, at_row, sum_weighted}
 use Rattle.number_laws.proofs.Ring.{var, nat, times, same_value}
 use Rattle.number_laws.proofs.Sums.{sum_int-cons}
 use Rattle.proof_laws.proofs.Lists.{list_any-place, list_any-at, true_or_false, false_from}
 use Rattle.bound_value.specs.declared.sums.PointSums.{PointSums}
-use Rattle.bound_value.specs.Sums.{is_set_kind, row_is, weights_on, sets_of, ArePointSums, is_between, may_count, AreNear}
-use Rattle.bound_value.proofs.Weighing.{on_use-small, on_load-small}
-use Rattle.bound_value.proofs.Tables.{use_summed, load_summed, sum_small_all}
-
--- lawful weights that pass a test are lawful
-pub some_lawful : (f : Row → Bool) (rows : List Row) (ws : List (ℕ × ℤ)) → AreLawful rows ws → AreLawful rows (weights_on f rows ws)
-some_lawful f rows ws h = record {
-  ascending = AllPairs-filter (λ (v w : ℕ × ℤ). v.0 < w.0) (λ (w : ℕ × ℤ). row_is f (slice_get rows w.0)) ws h.ascending;
-  listed = All-filter (λ (w : ℕ × ℤ). row_is f (slice_get rows w.0)) (λ (w : ℕ × ℤ). w.0 < length rows) ws h.listed;
-  not_zero = All-filter (λ (w : ℕ × ℤ). row_is f (slice_get rows w.0)) (λ (w : ℕ × ℤ). w.1 ≢ pos 0) ws h.not_zero;
-  small = All-filter (λ (w : ℕ × ℤ). row_is f (slice_get rows w.0)) (λ (w : ℕ × ℤ). unsigned_abs w.1 ≤ 2 ^ 76) ws h.small;
-  signs = All-filter (λ (w : ℕ × ℤ). row_is f (slice_get rows w.0)) (λ (w : ℕ × ℤ). (row : Row) → slice_get rows w.0 ≡ Some row → ¬ (IsTrue (is_equation row.kind)) → pos 0 ≤ℤ w.1) ws h.signs;
-}
+use Rattle.bound_value.specs.Sums.{is_set_kind, row_is, weights_on, sets_of, ArePointSums, AreSummed, is_between, may_count, AreNear}
+use Rattle.bound_value.proofs.Counting.{some_lawful}
 
 -- a weighted sum without weights on rows that count nothing
 pub sum_kept : (f : Row → ℤ) (keep : Row → Bool) (rows : List Row) (ws : List (ℕ × ℤ)) → ((row : Row) → keep row ≡ false → f row ≡ pos 0) → sum_weighted f rows (weights_on keep rows ws) ≡ sum_weighted f rows ws
@@ -91,77 +78,27 @@ numbered arcs rows sets near p a arc n e f = (
   elim (cases_lt a n.past) [ inl l ↦ l | inr l ↦ let k = n.past_is.later a arc l e in absurd (omega (arith, k, f)) ],
 )
 
--- What weights count a use of an arc as: what the sums are at its ends, and what the weights on near sets count.
-pub use_at : (arcs : List Arc) (rows : List Row) (ws near : List (ℕ × ℤ)) (sums : PointSums) (p a : ℕ) (arc : Arc) → ArePointSums rows ws sums → AreNear arcs rows (sets_of rows ws) p near → slice_get arcs a ≡ Some arc → arc.from ≡ p
-    → arc.from < 256 → arc.to < 256 → (get_or sums.use_from arc.from (pos 0) +ℤ get_or sums.use_to arc.to (pos 0)) +ℤ weighted_on_use rows near a arc ≡ weighted_on_use rows ws a arc
-use_at arcs rows ws near sums p a arc t n e f l h =
-    let within = numbered arcs rows (sets_of rows ws) near p a arc n e f in
-    let g = λ (row : Row). on_use row.kind row.members a arc.from arc.to in
-    let k : sum_weighted g rows near ≡ sum_weighted g rows (sets_of rows ws) = ap (sum_weighted g rows) n.near_are
-    ∙ sum_kept g (λ row. may_count p n.first n.past row.kind row.members) rows (sets_of rows ws)
-    (λ row none. (none_counted row.kind row.members arc.from n.first n.past a arc.to within.0 within.1 (ap (λ (x : ℕ). may_count x n.first n.past row.kind row.members) f ∙ none)).0) in
-    let u = use_summed rows ws a arc.from arc.to in
-    let x = t.use_from_is arc.from l in
-    let y = t.use_to_is arc.to h in
-    omega (arith, ints, k, u, x, y)
+-- the weights on near sets sum to those on all sets, where a row that can't count an arc out of p counts nothing
+near_sum : (g : Row → ℤ) (arcs : List Arc) (rows : List Row) (sets near : List (ℕ × ℤ)) (p : ℕ) (n : AreNear arcs rows sets p near) → ((row : Row) → may_count p n.first n.past row.kind row.members ≡ false → g row ≡ pos 0) → sum_weighted g rows near ≡ sum_weighted g rows sets
+near_sum g arcs rows sets near p n none = ap (sum_weighted g rows) n.near_are ∙ sum_kept g (λ row. may_count p n.first n.past row.kind row.members) rows sets none
 
--- the same of each unit of its load
-pub load_at : (arcs : List Arc) (rows : List Row) (ws near : List (ℕ × ℤ)) (sums : PointSums) (p a : ℕ) (arc : Arc) → ArePointSums rows ws sums → AreNear arcs rows (sets_of rows ws) p near → slice_get arcs a ≡ Some arc → arc.from ≡ p
-    → arc.from < 256 → arc.to < 256 → (get_or sums.load_from arc.from (pos 0) +ℤ get_or sums.load_to arc.to (pos 0)) +ℤ weighted_on_load rows near arc ≡ weighted_on_load rows ws arc
-load_at arcs rows ws near sums p a arc t n e f l h =
-    let within = numbered arcs rows (sets_of rows ws) near p a arc n e f in
-    let g = λ (row : Row). on_load row.kind row.members arc.from arc.to in
-    let k : sum_weighted g rows near ≡ sum_weighted g rows (sets_of rows ws) = ap (sum_weighted g rows) n.near_are
-    ∙ sum_kept g (λ row. may_count p n.first n.past row.kind row.members) rows (sets_of rows ws)
-    (λ row none. (none_counted row.kind row.members arc.from n.first n.past a arc.to within.0 within.1 (ap (λ (x : ℕ). may_count x n.first n.past row.kind row.members) f ∙ none)).1) in
-    let u = load_summed rows ws arc.from arc.to in
-    let x = t.load_from_is arc.from l in
-    let y = t.load_to_is arc.to h in
-    omega (arith, ints, k, u, x, y)
+-- the weights on near sets count an arc as those on all sets do
+pub near_summed : (arcs : List Arc) (rows : List Row) (ws sets near items : List (ℕ × ℤ)) (sums : PointSums) (a : ℕ) (arc : Arc) → AreLawful rows ws → length ws ≤ 1024 → ArePointSums rows ws sums → sets ≡ sets_of rows ws → AreNear arcs rows sets arc.from near → items ≡ near → slice_get arcs a ≡ Some arc
+    → AreSummed rows ws sums items a arc
+near_summed arcs rows ws sets near items sums a arc h few t s n e f = record {
+  lawful = h;
+  few = few;
+  sums_are = t;
+  use_of_others = same (λ (row : Row). on_use row.kind row.members a arc.from arc.to) (λ row none. (counted row none).0);
+  load_of_others = same (λ (row : Row). on_load row.kind row.members arc.from arc.to) (λ row none. (counted row none).1);
+}
+  where
+    same : (g : Row → ℤ) → ((row : Row) → may_count arc.from n.first n.past row.kind row.members ≡ false → g row ≡ pos 0) → sum_weighted g rows items ≡ sum_weighted g rows (sets_of rows ws)
+    same g none = ap (sum_weighted g rows) e ∙ near_sum g arcs rows sets near arc.from n none ∙ ap (sum_weighted g rows) s
+
+    counted : (row : Row) → may_count arc.from n.first n.past row.kind row.members ≡ false → (on_use row.kind row.members a arc.from arc.to ≡ pos 0) × (on_load row.kind row.members arc.from arc.to ≡ pos 0)
+    counted row none = let within = numbered arcs rows sets near arc.from a arc n f refl in none_counted row.kind row.members arc.from n.first n.past a arc.to within.0 within.1 none
 
 -- the weights on near sets are lawful
 pub near_lawful : (arcs : List Arc) (rows : List Row) (ws near items : List (ℕ × ℤ)) (p : ℕ) → AreLawful rows ws → AreNear arcs rows (sets_of rows ws) p near → items ≡ near → AreLawful rows items
 near_lawful arcs rows ws near items p h n e = subst (AreLawful rows) (sym (e ∙ n.near_are)) (some_lawful (λ row. may_count p n.first n.past row.kind row.members) rows (sets_of rows ws) (some_lawful (λ row. is_set_kind row.kind) rows ws h))
-
--- the weights on sets are lawful
-pub sets_lawful : (rows : List Row) (ws sets : List (ℕ × ℤ)) → AreLawful rows ws → sets ≡ sets_of rows ws → AreLawful rows sets
-sets_lawful rows ws sets h e = subst (AreLawful rows) (sym e) (some_lawful (λ row. is_set_kind row.kind) rows ws h)
-
--- what is known of an arc where it is counted
-pub record IsCounting (arcs : List Arc) (rows : List Row) (ws sets near items : List (ℕ × ℤ)) (sums : PointSums) (a : ℕ) (arc : Arc) : Type 0 where
-  pub lawful : AreLawful rows ws
-  pub few : length ws ≤ 1024
-  pub sums_are : ArePointSums rows ws sums
-  pub sets_are : sets ≡ sets_of rows ws
-  pub near_are : AreNear arcs rows sets arc.from near
-  pub items_are : items ≡ near
-  pub arc_is : slice_get arcs a ≡ Some arc
-  pub from : arc.from < 256
-  pub to : arc.to < 256
-
--- what it counts as
-pub use_counted : (arcs : List Arc) (rows : List Row) (ws sets near items : List (ℕ × ℤ)) (sums : PointSums) (a : ℕ) (arc : Arc) (ends others both : ℤ) → IsCounting arcs rows ws sets near items sums a arc
-    → ends ≡ get_or sums.use_from arc.from (pos 0) +ℤ get_or sums.use_to arc.to (pos 0) → others ≡ weighted_on_use rows items a arc → both ≡ ends +ℤ others → (both ≡ weighted_on_use rows ws a arc) × (unsigned_abs both ≤ 2 ^ 86)
-use_counted arcs rows ws sets near items sums a arc ends others both h e f g = (is, small)
-  where
-    near_sets : AreNear arcs rows (sets_of rows ws) arc.from near
-    near_sets = subst (λ (vs : List (ℕ × ℤ)). AreNear arcs rows vs arc.from near) h.sets_are h.near_are
-
-    is : both ≡ weighted_on_use rows ws a arc
-    is = g ∙ (λ i. e i +ℤ (f ∙ ap (λ (vs : List (ℕ × ℤ)). weighted_on_use rows vs a arc) h.items_are) i) ∙ use_at arcs rows ws near sums arc.from a arc h.sums_are near_sets h.arc_is refl h.from h.to
-
-    small : unsigned_abs both ≤ 2 ^ 86
-    small = subst (λ (z : ℤ). unsigned_abs z ≤ 2 ^ 86) (sym is) (sum_small_all (λ (row : Row). on_use row.kind row.members a arc.from arc.to) rows ws h.lawful h.few (λ row. on_use-small row.kind row.members a arc.from arc.to))
-
-pub load_counted : (arcs : List Arc) (rows : List Row) (ws sets near items : List (ℕ × ℤ)) (sums : PointSums) (a : ℕ) (arc : Arc) (ends others both : ℤ) → IsCounting arcs rows ws sets near items sums a arc
-    → ends ≡ get_or sums.load_from arc.from (pos 0) +ℤ get_or sums.load_to arc.to (pos 0) → others ≡ weighted_on_load rows items arc → both ≡ ends +ℤ others → (both ≡ weighted_on_load rows ws arc) × (unsigned_abs both ≤ 2 ^ 86)
-load_counted arcs rows ws sets near items sums a arc ends others both h e f g = (is, small)
-  where
-    near_sets : AreNear arcs rows (sets_of rows ws) arc.from near
-    near_sets = subst (λ (vs : List (ℕ × ℤ)). AreNear arcs rows vs arc.from near) h.sets_are h.near_are
-
-    is : both ≡ weighted_on_load rows ws arc
-    is = g ∙ (λ i. e i +ℤ (f ∙ ap (λ (vs : List (ℕ × ℤ)). weighted_on_load rows vs arc) h.items_are) i) ∙ load_at arcs rows ws near sums arc.from a arc h.sums_are near_sets h.arc_is refl h.from h.to
-
-    small : unsigned_abs both ≤ 2 ^ 86
-    small = subst (λ (z : ℤ). unsigned_abs z ≤ 2 ^ 86) (sym is) (sum_small_all (λ (row : Row). on_load row.kind row.members arc.from arc.to) rows ws h.lawful h.few (λ row. on_load-small row.kind row.members arc.from arc.to))

@@ -1,4 +1,4 @@
--- What weights count by the ends of arcs, and by the weights on other rows.
+-- For callers too: what weights count by the ends of arcs, and by the weights on other rows.
 use Rattle.std.proofs.Common.{◌≡◌, ◌≢◌, ℕ, zero, suc, ◌+◌, ◌*◌, ◌^◌, ◌<◌, ◌≤◌, inl, inr, ℤ, pos, negsuc, neg_ℤ, ◌+ℤ◌, ◌-ℤ◌, ◌*ℤ◌, unsigned_abs, cond, Bool, true, false, List, [], ◌∷◌, length, get_or, set, take, slice_get, Option, Some, None, to_z, of_z, refl, ap, sym, ◌∙◌, subst, arith}
 use Rattle.std.specs.Prelude.{AllPairs, replicate, ◌||◌, ◌==◌}
 use Rattle.std.specs.Int.{w64, w128}
@@ -10,8 +10,6 @@ use Rattle.std.proofs.lemmas.List.Folds.{list_any-append}
 use Rattle.std.proofs.lemmas.Option.{slice_get_within, get_or_from_slice_get}
 use Rattle.cable_definitions.specs.declared.row.RowKind.{RowKind}
 use Rattle.cable_definitions.specs.declared.row.RowKind.TheVariants.{Out, Flow, Inlet, Bend, Power, One, Cut}
-use Rattle.cable_definitions.specs.Site.{Site, IsValid}
-use Rattle.cable_definitions.specs.Arcs.{IsCandidate}
 use Rattle.cable_definitions.specs.Row.{Row, is_member, one_if, on_use, on_load}
 use Rattle.cable_definitions.specs.Choice.{AreLawful, at_row, sum_weighted}
 use Rattle.number_laws.proofs.Ring.{var, nat, plus, times, same_value}
@@ -26,38 +24,10 @@ use Rattle.bound_value.specs.Sums.{sign, part_of, is_set_kind, row_is, sets_of, 
 
 -- ---- what one row counts by one end
 sign_small : (part : Part) (kind : RowKind) → unsigned_abs (sign part kind) ≤ 1
-sign_small UseFrom Out = omega arith
-sign_small UseFrom Flow = omega arith
-sign_small UseFrom Inlet = omega arith
-sign_small UseFrom Bend = omega arith
-sign_small UseFrom Power = omega arith
-sign_small UseFrom One = omega arith
-sign_small UseFrom Cut = omega arith
-sign_small UseTo Out = omega arith
-sign_small UseTo Flow = omega arith
-sign_small UseTo Inlet = omega arith
-sign_small UseTo Bend = omega arith
-sign_small UseTo Power = omega arith
-sign_small UseTo One = omega arith
-sign_small UseTo Cut = omega arith
-sign_small LoadFrom Out = omega arith
-sign_small LoadFrom Flow = omega arith
-sign_small LoadFrom Inlet = omega arith
-sign_small LoadFrom Bend = omega arith
-sign_small LoadFrom Power = omega arith
-sign_small LoadFrom One = omega arith
-sign_small LoadFrom Cut = omega arith
-sign_small LoadTo Out = omega arith
-sign_small LoadTo Flow = omega arith
-sign_small LoadTo Inlet = omega arith
-sign_small LoadTo Bend = omega arith
-sign_small LoadTo Power = omega arith
-sign_small LoadTo One = omega arith
-sign_small LoadTo Cut = omega arith
+sign_small = grind arith
 
 if_small : (b : Bool) → unsigned_abs (one_if b) ≤ 1
-if_small true = omega arith
-if_small false = omega arith
+if_small = grind arith
 
 pub part_small : (part : Part) (p : ℕ) (row : Row) → unsigned_abs (part_of part p row) ≤ 1
 part_small part p row =
@@ -68,62 +38,23 @@ part_small part p row =
 
 -- a row that counts by more than one end counts nothing by one
 set_nothing : (part : Part) (kind : RowKind) → is_set_kind kind ≡ true → sign part kind ≡ pos 0
-set_nothing UseFrom Out e = absurd (cc)
-set_nothing UseFrom Flow e = absurd (cc)
-set_nothing UseFrom Inlet e = absurd (cc)
-set_nothing UseFrom Bend e = absurd (cc)
-set_nothing UseFrom Power e = absurd (cc)
-set_nothing UseFrom One e = refl
-set_nothing UseFrom Cut e = refl
-set_nothing UseTo Out e = absurd (cc)
-set_nothing UseTo Flow e = absurd (cc)
-set_nothing UseTo Inlet e = absurd (cc)
-set_nothing UseTo Bend e = absurd (cc)
-set_nothing UseTo Power e = absurd (cc)
-set_nothing UseTo One e = refl
-set_nothing UseTo Cut e = refl
-set_nothing LoadFrom Out e = absurd (cc)
-set_nothing LoadFrom Flow e = absurd (cc)
-set_nothing LoadFrom Inlet e = absurd (cc)
-set_nothing LoadFrom Bend e = absurd (cc)
-set_nothing LoadFrom Power e = absurd (cc)
-set_nothing LoadFrom One e = refl
-set_nothing LoadFrom Cut e = refl
-set_nothing LoadTo Out e = absurd (cc)
-set_nothing LoadTo Flow e = absurd (cc)
-set_nothing LoadTo Inlet e = absurd (cc)
-set_nothing LoadTo Bend e = absurd (cc)
-set_nothing LoadTo Power e = absurd (cc)
-set_nothing LoadTo One e = refl
-set_nothing LoadTo Cut e = refl
+set_nothing = grind arith
 
 pub set_parts : (part : Part) (p : ℕ) (row : Row) → is_set_kind row.kind ≡ true → part_of part p row ≡ pos 0
 set_parts part p row e = ap (λ (z : ℤ). z *ℤ one_if (is_member row.members p)) (set_nothing part row.kind e) ∙ same_value (times (nat 0) (var (one_if (is_member row.members p)))) (nat 0) (omega arith)
 
 -- another row counts by its two ends alone
 by_start : (b c : Bool) → one_if b ≡ pos 1 *ℤ one_if b +ℤ pos 0 *ℤ one_if c
-by_start true true = refl
-by_start true false = refl
-by_start false true = refl
-by_start false false = refl
+by_start = grind arith
 
 by_end : (b c : Bool) → neg_ℤ (one_if c) ≡ pos 0 *ℤ one_if b +ℤ negsuc 0 *ℤ one_if c
-by_end true true = refl
-by_end true false = refl
-by_end false true = refl
-by_end false false = refl
+by_end = grind arith
 
 by_both : (b c : Bool) → one_if b -ℤ one_if c ≡ pos 1 *ℤ one_if b +ℤ negsuc 0 *ℤ one_if c
-by_both true true = refl
-by_both true false = refl
-by_both false true = refl
-by_both false false = refl
+by_both = grind arith
 
 by_none : (b c : Bool) → pos 0 ≡ pos 0 *ℤ one_if b +ℤ pos 0 *ℤ one_if c
-by_none true true = refl
-by_none true false = refl
-by_none false true = refl
-by_none false false = refl
+by_none = grind arith
 
 use_by_kind : (kind : RowKind) (members : List ℕ) (a p q : ℕ) → is_set_kind kind ≡ false → on_use kind members a p q ≡ sign UseFrom kind *ℤ one_if (is_member members p) +ℤ sign UseTo kind *ℤ one_if (is_member members q)
 use_by_kind Out members a p q e = by_start (is_member members p) (is_member members q)
@@ -298,13 +229,6 @@ sums_small rows ws sums h few t = record {
   load_from = λ p l. entry_small LoadFrom rows ws sums.load_from p h few t.load_from_is l;
   load_to = λ p l. entry_small LoadTo rows ws sums.load_to p h few t.load_to_is l;
 }
-
--- ends of candidate arcs are below 256
-pub start_below : (s : Site) (p q : ℕ) → IsValid s → IsCandidate s p q → p < 256
-start_below s p q v c = let k = slice_get_within s.points p c.from c.from_is in let m = v.points_count in omega (arith, k, m)
-
-pub end_below : (s : Site) (p q : ℕ) → IsValid s → IsCandidate s p q → q < 256
-end_below s p q v c = let k = slice_get_within s.points q c.to c.to_is in let m = v.points_count in omega (arith, k, m)
 
 -- ---- what the loops write
 -- an entry with a weight at one of its points

@@ -1,5 +1,5 @@
--- Weighted sums, weight by weight, and how large they are.
-use Rattle.std.proofs.Common.{◌≡◌, ℕ, ◌+◌, ◌*◌, ◌^◌, ◌≤◌, ◌<◌, ℤ, pos, neg_ℤ, ◌+ℤ◌, ◌-ℤ◌, ◌*ℤ◌, unsigned_abs, to_z, of_z, FitsSigned, Bool, true, false, List, [], ◌∷◌, ◌++◌, length, take, get_or, slice_get, Some, Option, ap, sym, ◌∙◌, subst, arith}
+-- For callers too: weighted sums, weight by weight, and how large they are.
+use Rattle.std.proofs.Common.{◌≡◌, ℕ, ◌+◌, ◌*◌, ◌^◌, ◌≤◌, ◌<◌, ℤ, pos, neg_ℤ, ◌+ℤ◌, ◌-ℤ◌, ◌*ℤ◌, unsigned_abs, to_z, of_z, FitsSigned, Bool, List, [], ◌∷◌, ◌++◌, length, take, get_or, slice_get, Some, Option, ap, sym, ◌∙◌, subst, arith}
 use Rattle.std.specs.Int.{w8, w64, w128}
 use Rattle.std.proofs.lemmas.Int.{ints, to_z-of_z, unsigned_abs-mul}
 use Rattle.std.proofs.lemmas.Nat.{mul-le}
@@ -105,18 +105,13 @@ coefficient_added f rows weights i w total coefficient count term n so_far small
 
 -- ---- a row counts an arc as -1, 0 or 1
 if_small : (b : Bool) → unsigned_abs (one_if b) ≤ 1
-if_small true = omega arith
-if_small false = omega arith
+if_small = grind arith
 
 unless_small : (b : Bool) → unsigned_abs (neg_ℤ (one_if b)) ≤ 1
-unless_small true = omega arith
-unless_small false = omega arith
+unless_small = grind arith
 
 difference_small : (b c : Bool) → unsigned_abs (one_if b -ℤ one_if c) ≤ 1
-difference_small true true = omega arith
-difference_small true false = omega arith
-difference_small false true = omega arith
-difference_small false false = omega arith
+difference_small = grind arith
 
 pub on_use-small : (kind : RowKind) (members : List ℕ) (a p q : ℕ) → unsigned_abs (on_use kind members a p q) ≤ 1
 on_use-small Out members a p q = if_small (is_member members p)

@@ -1,12 +1,13 @@
 -- What weights count by the ends of arcs, and the weights whose rows count arcs otherwise.
-use Rattle.std.specs.Prelude.{◌≡◌, ℕ, ◌+◌, ◌^◌, ◌≤◌, ◌<◌, ℤ, pos, negsuc, ◌*ℤ◌, unsigned_abs, List, filter, slice_get, slice_index_or, Option, Some, None, Bool, true, false, nat_lt, cond}
+use Rattle.std.specs.Prelude.{◌≡◌, ℕ, ◌+◌, ◌^◌, ◌≤◌, ◌<◌, ℤ, pos, negsuc, ◌*ℤ◌, unsigned_abs, List, length, filter, slice_get, slice_index_or, Option, Some, None, Bool, true, false, nat_lt, cond}
 use Rattle.std.specs.List.{list_any}
 use Rattle.cable_definitions.specs.declared.cable.Arc.{Arc}
 use Rattle.cable_definitions.specs.declared.row.RowKind.{RowKind}
 use Rattle.cable_definitions.specs.declared.row.RowKind.TheVariants.{Out, Flow, Inlet, Bend, Power, One, Cut}
 use Rattle.cable_definitions.specs.Row.{Row, is_member, one_if}
-use Rattle.cable_definitions.specs.Choice.{sum_weighted}
+use Rattle.cable_definitions.specs.Choice.{AreLawful, sum_weighted, weighted_on_use, weighted_on_load}
 use Rattle.candidate_cables.specs.Tables.{IsFirstFrom}
+use Rattle.bound_value.specs.declared.counts.Counts.{Counts}
 use Rattle.bound_value.specs.declared.sums.PointSums.{PointSums}
 use Rattle.bound_value.specs.declared.sums.Part.{Part}
 use Rattle.bound_value.specs.declared.sums.Part.TheVariants.{UseFrom, UseTo, LoadFrom, LoadTo}
@@ -72,6 +73,21 @@ pub record AreSmallSums (sums : PointSums) : Type 0 where
   pub use_to : IsSmallTable sums.use_to
   pub load_from : IsSmallTable sums.load_from
   pub load_to : IsSmallTable sums.load_to
+
+-- the sums are those of lawful weights, and these others count arc number a as those of the weights do whose rows count arcs otherwise
+pub record AreSummed (rows : List Row) (weights : List (ℕ × ℤ)) (sums : PointSums) (others : List (ℕ × ℤ)) (a : ℕ) (arc : Arc) : Type 0 where
+  pub lawful : AreLawful rows weights
+  pub few : length weights ≤ 1024
+  pub sums_are : ArePointSums rows weights sums
+  pub use_of_others : weighted_on_use rows others a arc ≡ weighted_on_use rows (sets_of rows weights) a arc
+  pub load_of_others : weighted_on_load rows others arc ≡ weighted_on_load rows (sets_of rows weights) arc
+
+-- these counts are what the weights count arc number a as, and are small
+pub record AreCounts (rows : List Row) (weights : List (ℕ × ℤ)) (a : ℕ) (arc : Arc) (counts : Counts) : Type 0 where
+  pub on_use : counts.on_use ≡ weighted_on_use rows weights a arc
+  pub on_load : counts.on_load ≡ weighted_on_load rows weights arc
+  pub on_use_small : unsigned_abs counts.on_use ≤ 2 ^ 86
+  pub on_load_small : unsigned_abs counts.on_load ≤ 2 ^ 86
 
 -- whether a number is one from first up to past
 abbrev pub is_between : ℕ → ℕ → ℕ → Bool

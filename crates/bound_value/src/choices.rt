@@ -3,27 +3,17 @@
 ghost use Rattle.std.specs.Prelude.{◌≡◌, ◌^◌, ◌≤◌, ◌<◌, ℤ, pos, ◌-ℤ◌, ◌*◌, ◌*ℤ◌, ◌+◌, length, unsigned_abs, slice_get, Some};
 ghost use Rattle.cable_definitions.specs.declared.cable.Arc.{Arc as AnArc};
 ghost use Rattle.cable_definitions.specs.Arcs.{AreArcs, Bears, kind_of, cost_of};
-ghost use Rattle.cable_definitions.specs.Choice.{IsExtreme, AtMost, least_load as least_load_of};
+ghost use Rattle.cable_definitions.specs.Choice.{IsExtreme, AtMost, least_load};
 ghost use Rattle.site_model.specs.Best.{most_cost};
 ghost use Rattle.candidate_cables.specs.Listing.{IsArc};
 ghost use Rattle.bound_value.specs.Least.{left_over, IsBestLoad, IsLeastOfType, IsLeastOfTypesBelow, lesser_left as lesser_of};
 
 use crate::Mark;
 use candidate_cables::{Arc, Arcs};
-use site_model::{Kind, Site};
+use site_model::Site;
 
 /// How many units of what is left make a cost unit.
 const UNITS: i128 = 1_048_576;
-
-/// The least load in power units out of a point.
-fn least_load(kind: Kind) -> u32
-    ensures { result ≡ least_load_of kind }
-{
-    match kind {
-        Kind::Turbine { power } => power,
-        _ => 1,
-    }
-}
 
 /// The load between two loads at which an arc counts the most, where each unit counts as `on_load`.
 fn best_load(least: u32, capacity: u32, on_load: i128) -> u32
@@ -64,7 +54,7 @@ pub(crate) fn cost_along(site: &Site, arc: Arc, grade: u32, load: u32) -> u64
 /// The least that a use of the arc by a type leaves of its cost, over the loads from the least one up to the type's capacity.
 fn least_of_type(site: &Site, arc: Arc, grade: u32, least: u32, on_use: i128, on_load: i128) -> i128
     requires arc { IsArc site.now arc }
-    requires least { least ≡ least_load_of (kind_of site.now arc.from) }
+    requires least { least ≡ least_load (kind_of site.now arc.from) }
     requires bears { Bears site.now grade least }
     requires on_use { unsigned_abs on_use ≤ 2 ^ 86 }
     requires on_load { unsigned_abs on_load ≤ 2 ^ 86 }
@@ -97,7 +87,7 @@ fn with_type(
 ) -> Option<i128>
     requires arc { IsArc site.now arc }
     requires grade { grade < length site.now.types }
-    requires load { load ≡ least_load_of (kind_of site.now arc.from) }
+    requires load { load ≡ least_load (kind_of site.now arc.from) }
     requires on_use { unsigned_abs on_use ≤ 2 ^ 86 }
     requires on_load { unsigned_abs on_load ≤ 2 ^ 86 }
     requires least { IsLeastOfTypesBelow site.now arc on_use on_load grade least }
@@ -117,7 +107,7 @@ fn least_used(site: &Site, arc: Arc, on_use: i128, on_load: i128) -> i128
     requires on_load { unsigned_abs on_load ≤ 2 ^ 86 }
     ensures { IsExtreme AtMost site.now arc Mark.Used (left_over site.now arc on_use on_load) result }
 {
-    let load = least_load(site.points()[arc.from as usize].kind);
+    let load = site.points()[arc.from as usize].kind.least_load();
     let mut least = None;
     for grade in 0..site.types().len() as u32 {
         least = with_type(site, arc, grade, load, on_use, on_load, least);

@@ -1,14 +1,14 @@
 //! What no legal layout costs more than.
 
 ghost use Rattle.std.specs.Prelude.{◌≡◌, ◌≤◌, ◌<◌, length, if◌then◌else◌};
-ghost use Rattle.cable_definitions.specs.Arcs.{AreArcs, kind_of, is_substation as is_substation_of};
+ghost use Rattle.cable_definitions.specs.Arcs.{AreArcs, kind_of, is_substation};
 ghost use Rattle.cable_definitions.specs.Tree.{ceiling as ceiling_of, greatest_out as greatest_cost_out, greatest_of_types as greatest_cost_of_types};
 ghost use Rattle.site_model.specs.Best.{most_cost};
 ghost use Rattle.candidate_cables.specs.Listing.{IsArc};
 
 use crate::choices::cost_along;
 use candidate_cables::{Arc, Arcs};
-use site_model::{Kind, Site};
+use site_model::Site;
 
 /// The greatest cost of an arc under any type, at the type's capacity as load.
 fn greatest_of_types(site: &Site, arc: Arc) -> u64
@@ -38,21 +38,14 @@ fn greatest_out(site: &Site, arcs: &Arcs, p: u32) -> u64
     most
 }
 
-/// Whether a substation stands at a point.
-fn is_substation(kind: Kind) -> bool
-    ensures { result ≡ is_substation_of kind }
-{
-    matches!(kind, Kind::Substation { .. })
-}
-
 /// What a point adds to the ceiling: a substation nothing, another point the greatest cost out of it.
 fn share(site: &Site, arcs: &Arcs, p: u32) -> u64
     requires arcs { AreArcs site.now arcs.now }
     requires point { p < length site.now.points }
-    ensures share { result ≡ (if is_substation_of (kind_of site.now p) then 0 else greatest_cost_out site.now arcs.now p) }
+    ensures share { result ≡ (if is_substation (kind_of site.now p) then 0 else greatest_cost_out site.now arcs.now p) }
     ensures most { result ≤ most_cost }
 {
-    if is_substation(site.points()[p as usize].kind) {
+    if site.points()[p as usize].kind.is_substation() {
         return 0;
     }
     greatest_out(site, arcs, p)

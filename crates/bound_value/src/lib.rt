@@ -2,6 +2,7 @@
 #![tactic(auto)]
 
 mod choices;
+mod counts;
 mod decisions;
 mod greatest;
 mod lawfulness;
@@ -13,9 +14,12 @@ mod work;
 
 pub use cable_definitions::row::Mark;
 pub use choices::least_choice;
+pub use counts::{Counts, weighted_counts};
 pub use decisions::Decisions;
 pub use greatest::ceiling;
 pub use lawfulness::lawful;
+pub use sets::{WeightList, find_sets};
+pub use sums::PointSums;
 pub use value::{rounded_bound, weigh};
 pub use weights::{Weights, WeightsFull};
 pub use work::Work;

@@ -17,7 +17,7 @@ const MOST_WEIGHTS: usize = 1024;
 
 /// Some of at most 1,024 weights, seen as a list. It takes no memory beside its own.
 #[derive(Drop)]
-pub(crate) struct WeightList {
+pub struct WeightList {
     weights: [(u32, i128); MOST_WEIGHTS],
     count: usize,
 }
@@ -36,7 +36,7 @@ impl WeightList {
     ghost use Rattle.std.specs.Prelude.{◌≡◌, ◌<◌, ◌≤◌, [], ◌∷◌, ◌++◌, length};
 
     /// No weights.
-    pub(crate) fn new() -> WeightList
+    pub fn new() -> WeightList
         ensures { result ≡ [] }
     {
         WeightList {
@@ -46,7 +46,7 @@ impl WeightList {
     }
 
     /// The weights in their order.
-    pub(crate) fn as_slice(&self) -> &[(u32, i128)]
+    pub fn as_slice(&self) -> &[(u32, i128)]
         ensures value { result.now ≡ self.now }
         ensures few { length self.now ≤ 1024 }
     {
@@ -84,17 +84,26 @@ fn is_set(pool: &RowPool, row: u32) -> bool
     }
 }
 
+/// Replaces `sets` by the weights on rows that count arcs by more than one of their ends. The weights have to be lawful. It takes no memory.
+pub fn find_sets(pool: &RowPool, weights: &Weights, sets: &mut WeightList)
+    requires { AreLawful pool.now weights.now }
+    ensures { sets.new ≡ sets_of pool.now weights.now }
+{
+    sets.clear();
+    for own in weights.as_slice() {
+        if is_set(pool, own.0) {
+            sets.push(*own);
+        }
+    }
+}
+
 /// The weights on rows that count arcs by more than one of their ends.
 pub(crate) fn weights_on_sets(pool: &RowPool, weights: &Weights) -> WeightList
     requires { AreLawful pool.now weights.now }
     ensures { result ≡ sets_of pool.now weights.now }
 {
     let mut sets = WeightList::new();
-    for own in weights.as_slice() {
-        if is_set(pool, own.0) {
-            sets.push(*own);
-        }
-    }
+    find_sets(pool, weights, &mut sets);
     sets
 }
 

@@ -5,16 +5,11 @@ ghost use Rattle.cable_definitions.specs.Choice.{AreLawful};
 ghost use Rattle.cable_definitions.specs.Row.{is_member, one_if};
 ghost use Rattle.bound_value.specs.Sums.{sign, IsTable, ArePointSums, AreSmallSums};
 
-use crate::Weights;
+use crate::{Counts, Weights, weighted_counts};
 use cable_definitions::row::RowKind;
 use cable_rows::RowPool;
-
-/// What weighted rows count a use of an arc as, and what they count each unit of its load as.
-#[derive(Clone, Copy)]
-pub(crate) struct Counts {
-    pub(crate) on_use: i128,
-    pub(crate) on_load: i128,
-}
+use candidate_cables::{Arc, Arcs};
+use site_model::Site;
 
 /// What a table sums: counts of a use or of each unit of load, by the start or by the end of an arc.
 #[derive(Clone, Copy)]
@@ -25,9 +20,10 @@ enum Part {
     LoadTo,
 }
 
-/// What weights on rows of one point count by the ends of arcs, for each of 256 points.
+/// What weights on rows count by the ends of arcs, summed for each of 256 points: of each use and of each unit of load, by the start and by the end.
+/// Rows that count arcs by more than one of their ends are left out. It takes no memory beside its own.
 #[derive(Drop)]
-pub(crate) struct PointSums {
+pub struct PointSums {
     use_from: [i128; 256],
     use_to: [i128; 256],
     load_from: [i128; 256],
@@ -87,6 +83,82 @@ fn table_of(pool: &RowPool, weights: &Weights, part: Part) -> [i128; 256]
     table
 }
 
+impl PointSums {
+    ghost use Rattle.std.specs.Prelude.{◌≡◌, ◌^◌, ◌≤◌, ◌<◌, List, ℕ, ℤ, [], pos, ◌+ℤ◌, length, unsigned_abs, slice_get, slice_index_or, Some};
+    ghost use Rattle.cable_definitions.specs.declared.cable.Arc.{Arc as AnArc};
+    ghost use Rattle.cable_definitions.specs.Arcs.{AreArcs};
+    ghost use Rattle.cable_definitions.specs.Choice.{AreLawful};
+    ghost use Rattle.cable_definitions.specs.Row.{Row};
+    ghost use Rattle.bound_value.specs.Sums.{ArePointSums, AreSmallSums, AreSummed, AreCounts};
+
+    /// The sums of no weights.
+    pub fn new() -> PointSums
+        ensures { (rows : List Row) → ArePointSums rows [] result }
+    {
+        PointSums {
+            use_from: [0; 256],
+            use_to: [0; 256],
+            load_from: [0; 256],
+            load_to: [0; 256],
+        }
+    }
+
+    /// Sums anew, for these weights.
+    pub fn sum_up(&mut self, pool: &RowPool, weights: &Weights)
+        requires { AreLawful pool.now weights.now }
+        ensures sums { ArePointSums pool.now weights.now self.new }
+        ensures small { AreSmallSums self.new }
+        ensures few { length weights.now ≤ 1024 }
+    {
+        // A list of weights is short, which its slice tells.
+        let _short = weights.as_slice();
+        self.use_from = table_of(pool, weights, Part::UseFrom);
+        self.use_to = table_of(pool, weights, Part::UseTo);
+        self.load_from = table_of(pool, weights, Part::LoadFrom);
+        self.load_to = table_of(pool, weights, Part::LoadTo);
+    }
+
+    /// What the sums are at the two ends of an arc.
+    fn at_ends(&self, from: u32, to: u32) -> Counts
+        requires from { from < 256 }
+        requires to { to < 256 }
+        requires small { AreSmallSums self.now }
+        ensures on_use { result.on_use ≡ slice_index_or self.now.use_from from (pos 0) +ℤ slice_index_or self.now.use_to to (pos 0) }
+        ensures on_load { result.on_load ≡ slice_index_or self.now.load_from from (pos 0) +ℤ slice_index_or self.now.load_to to (pos 0) }
+        ensures on_use_small { unsigned_abs result.on_use ≤ 2 ^ 87 }
+        ensures on_load_small { unsigned_abs result.on_load ≤ 2 ^ 87 }
+    {
+        Counts {
+            on_use: self.use_from[from as usize] + self.use_to[to as usize],
+            on_load: self.load_from[from as usize] + self.load_to[to as usize],
+        }
+    }
+
+    /// What weights count an arc as, of which these are the sums. `others` are lawful weights that count the arc as those of the weights do whose rows
+    /// count arcs by more than one of their ends. The arcs are those of the site. It takes no memory.
+    pub fn counts(
+        &self,
+        site: &Site,
+        arcs: &Arcs,
+        pool: &RowPool,
+        others: &[(u32, i128)],
+        arc: u32,
+    ) -> Counts
+        requires arcs { AreArcs site.now arcs.now }
+        requires small { AreSmallSums self.now }
+        requires lawful { AreLawful pool.now others.now }
+        requires few { length others.now ≤ 1024 }
+        requires arc { arc < length arcs.now }
+        ensures { (weights : List (ℕ × ℤ)) (a : AnArc) → slice_get arcs.now arc ≡ Some a → AreSummed pool.now weights self.now others.now arc a → AreCounts pool.now weights arc a result }
+    {
+        // The points of a site come with the fact that it is valid, so that there are at most 256.
+        let _points = site.points();
+        let Arc { from, to, .. } = arcs.get(arc);
+        self.at_ends(from, to)
+            .with(weighted_counts(site, arcs, pool, others, arc))
+    }
+}
+
 /// The sums of what weights count by the ends of arcs.
 pub(crate) fn point_sums(pool: &RowPool, weights: &Weights) -> PointSums
     requires { AreLawful pool.now weights.now }
@@ -94,43 +166,7 @@ pub(crate) fn point_sums(pool: &RowPool, weights: &Weights) -> PointSums
     ensures small { AreSmallSums result }
     ensures few { length weights.now ≤ 1024 }
 {
-    // A list of weights is short, which its slice tells.
-    let _short = weights.as_slice();
-    PointSums {
-        use_from: table_of(pool, weights, Part::UseFrom),
-        use_to: table_of(pool, weights, Part::UseTo),
-        load_from: table_of(pool, weights, Part::LoadFrom),
-        load_to: table_of(pool, weights, Part::LoadTo),
-    }
-}
-
-/// What the sums are at the two ends of an arc.
-pub(crate) fn at_ends(sums: &PointSums, from: u32, to: u32) -> Counts
-    requires from { from < 256 }
-    requires to { to < 256 }
-    requires small { AreSmallSums sums.now }
-    ensures on_use { result.on_use ≡ slice_index_or sums.now.use_from from (pos 0) +ℤ slice_index_or sums.now.use_to to (pos 0) }
-    ensures on_load { result.on_load ≡ slice_index_or sums.now.load_from from (pos 0) +ℤ slice_index_or sums.now.load_to to (pos 0) }
-    ensures on_use_small { unsigned_abs result.on_use ≤ 2 ^ 87 }
-    ensures on_load_small { unsigned_abs result.on_load ≤ 2 ^ 87 }
-{
-    Counts {
-        on_use: sums.use_from[from as usize] + sums.use_to[to as usize],
-        on_load: sums.load_from[from as usize] + sums.load_to[to as usize],
-    }
-}
-
-/// Two counts added.
-pub(crate) fn added(first: Counts, second: Counts) -> Counts
-    requires first_use { unsigned_abs first.on_use ≤ 2 ^ 87 }
-    requires first_load { unsigned_abs first.on_load ≤ 2 ^ 87 }
-    requires second_use { unsigned_abs second.on_use ≤ 2 ^ 86 }
-    requires second_load { unsigned_abs second.on_load ≤ 2 ^ 86 }
-    ensures on_use { result.on_use ≡ first.on_use +ℤ second.on_use }
-    ensures on_load { result.on_load ≡ first.on_load +ℤ second.on_load }
-{
-    Counts {
-        on_use: first.on_use + second.on_use,
-        on_load: first.on_load + second.on_load,
-    }
+    let mut sums = PointSums::new();
+    sums.sum_up(pool, weights);
+    sums
 }

@@ -1,14 +1,14 @@
 //! The value of weights in a node's box, and the bound that it gives.
 
-ghost use Rattle.std.specs.Prelude.{◌≡◌, ℕ, ◌*◌, ◌^◌, ◌≤◌, ◌<◌, pos, ◌*ℤ◌, ◌≤ℤ◌, ◌<ℤ◌, length, unsigned_abs, slice_get, Some};
-ghost use Rattle.cable_definitions.specs.declared.cable.Arc.{Arc as AnArc};
+ghost use Rattle.std.specs.Prelude.{◌≡◌, ℕ, ◌*◌, ◌^◌, ◌≤◌, ◌<◌, pos, ◌*ℤ◌, ◌≤ℤ◌, ◌<ℤ◌, length, unsigned_abs};
 ghost use Rattle.cable_definitions.specs.Arcs.{AreArcs};
 ghost use Rattle.cable_definitions.specs.Row.{right};
-ghost use Rattle.cable_definitions.specs.Choice.{AreLawful, AtMost, IsSumOfExtremes, IsValue, reduced_cost, sum_weighted, weighted_on_use, weighted_on_load};
+ghost use Rattle.cable_definitions.specs.Choice.{AreLawful, AtMost, IsSumOfExtremes, IsValue, reduced_cost, sum_weighted};
 ghost use Rattle.cable_definitions.specs.Tree.{IsBound};
 
+use crate::counts::weighted;
 use crate::sets::{WeightList, find_near, turn_to, weights_on_sets};
-use crate::sums::{Counts, added, at_ends, point_sums};
+use crate::sums::point_sums;
 use crate::{Decisions, Weights, least_choice};
 use cable_rows::RowPool;
 use candidate_cables::{Arc, Arcs};
@@ -16,47 +16,6 @@ use site_model::Site;
 
 /// How many units of a weight or a value make a cost unit.
 const UNITS: u128 = 1_048_576;
-
-/// A count of a row times the row's weight.
-fn weighted(weight: i128, count: i64) -> i128
-    requires weight { unsigned_abs weight ≤ 2 ^ 76 }
-    requires count { unsigned_abs count ≤ 76800000 }
-    ensures product { result ≡ weight *ℤ count }
-    ensures small { unsigned_abs result ≤ 2 ^ 76 * unsigned_abs count }
-{
-    weight * i128::from(count)
-}
-
-/// What rows with these weights count an arc as.
-fn weighted_counts(
-    site: &Site,
-    arcs: &Arcs,
-    pool: &RowPool,
-    weights: &[(u32, i128)],
-    arc: u32,
-) -> Counts
-    requires arcs { AreArcs site.now arcs.now }
-    requires lawful { AreLawful pool.now weights.now }
-    requires few { length weights.now ≤ 1024 }
-    requires arc { arc < length arcs.now }
-    ensures on_use { (a : AnArc) → slice_get arcs.now arc ≡ Some a → result.on_use ≡ weighted_on_use pool.now weights.now arc a }
-    ensures on_load { (a : AnArc) → slice_get arcs.now arc ≡ Some a → result.on_load ≡ weighted_on_load pool.now weights.now a }
-    ensures on_use_small { unsigned_abs result.on_use ≤ 2 ^ 86 }
-    ensures on_load_small { unsigned_abs result.on_load ≤ 2 ^ 86 }
-{
-    let mut sum = Counts {
-        on_use: 0,
-        on_load: 0,
-    };
-    for weight in weights {
-        let (on_use, on_load) = pool.coefficients(site, arcs, weight.0, arc);
-        sum = Counts {
-            on_use: sum.on_use + weighted(weight.1, i64::from(on_use)),
-            on_load: sum.on_load + weighted(weight.1, i64::from(on_load)),
-        };
-    }
-    sum
-}
 
 /// The weighted sum of the right sides of the weighted rows.
 fn weighted_right_sides(site: &Site, pool: &RowPool, weights: &Weights) -> i128
@@ -85,8 +44,6 @@ fn least_choices(
     ensures sum { IsSumOfExtremes AtMost site.now arcs.now decisions.now (reduced_cost site.now pool.now weights.now) result }
     ensures small { unsigned_abs result ≤ 65280 * 10 ^ 30 }
 {
-    // The points of a site come with the fact that it is valid, so that there are at most 256.
-    let _points = site.points();
     let sums = point_sums(pool, weights);
     let sets = weights_on_sets(pool, weights);
     let mut near = WeightList::new();
@@ -94,11 +51,10 @@ fn least_choices(
     let mut at = 0;
     let mut sum: i128 = 0;
     for number in 0..arcs.len() {
-        let Arc { from, to, .. } = arcs.get(number);
+        let Arc { from, .. } = arcs.get(number);
         turn_to(arcs, pool, &sets, at, from, &mut near);
         at = from;
-        let by_sets = weighted_counts(site, arcs, pool, near.as_slice(), number);
-        let counts = added(at_ends(&sums, from, to), by_sets);
+        let counts = sums.counts(site, arcs, pool, near.as_slice(), number);
         let mark = decisions.mark(number);
         sum += least_choice(site, arcs, number, mark, counts.on_use, counts.on_load);
     }

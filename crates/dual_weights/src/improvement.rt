@@ -6,10 +6,10 @@ ghost use Rattle.dual_weights.specs.Worth.{AreWorth};
 
 use crate::steps::Dual;
 use bound_shares::Shares;
-use bound_value::{Decisions, Weights, lawful};
+use bound_value::{Decisions, Weights, lawful, weigh};
 use cable_rows::RowPool;
 use candidate_cables::Arcs;
-use row_lifts::{copied, lift_all, summed_value};
+use row_lifts::{copied, lift_all};
 use site_model::Site;
 use std::alloc::{AllocError, Global};
 
@@ -72,11 +72,11 @@ pub fn better_of(
     ensures found { IfOk result (λ weights. AreLawful pool.now found → AreWorth site.now arcs.now pool.now decisions.now found weights) }
 {
     let kept = copied(alloc, start)?;
-    let before = summed_value(alloc, site, arcs, pool, decisions, start)?;
+    let before = weigh(site, arcs, pool, decisions, start);
     if !lawful(pool, &found) {
         return Ok(kept);
     }
-    let after = summed_value(alloc, site, arcs, pool, decisions, &found)?;
+    let after = weigh(site, arcs, pool, decisions, &found);
     if before < after {
         return Ok(found);
     }

@@ -3,7 +3,7 @@ use Rattle.cable_definitions.specs.declared.cable.Arc.{Arc}
 use Rattle.cable_definitions.specs.Row.{Row, on_use, on_load}
 use Rattle.proof_laws.proofs.Lists.{some_at}
 use Rattle.bound_value.proofs.Weighing.{next_weight, coefficient_added, on_use-small, on_load-small}
-use Rattle.bound_value.proofs.value.weighted_counts.Goals as goal
+use Rattle.bound_value.proofs.counts.weighted_counts.Goals as goal
 
 pub overflow_add-sum : goal.overflow_add-sum
 overflow_add-sum c =

@@ -1,7 +1,7 @@
 use Rattle.std.proofs.Common.{◌≡◌, ◌≤◌, ◌*◌, ◌^◌, unsigned_abs, take, slice_get, Some}
 use Rattle.cable_definitions.specs.declared.cable.Arc.{Arc}
 use Rattle.cable_definitions.specs.Choice.{weighted_on_use, weighted_on_load}
-use Rattle.bound_value.proofs.value.weighted_counts.Given as goal
+use Rattle.bound_value.proofs.counts.weighted_counts.Given as goal
 
 abbrev pub invariant-loop-weight : goal.invariant-loop-weight
 invariant-loop-weight l = record {

@@ -2,7 +2,7 @@ use Rattle.std.proofs.Common.{◌≡◌, ◌≤◌, ◌*◌, ◌^◌, unsigned_a
 use Rattle.std.specs.Int.{w64}
 use Rattle.std.proofs.lemmas.Int.{ints, to_z-of_z}
 use Rattle.bound_value.proofs.Weighing.{product}
-use Rattle.bound_value.proofs.value.weighted.Goals as goal
+use Rattle.bound_value.proofs.counts.weighted.Goals as goal
 
 pub returns-clause-product : goal.returns-clause-product
 returns-clause-product c =
