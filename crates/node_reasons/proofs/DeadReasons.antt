@@ -50,12 +50,26 @@ flow_dead s arcs rows marks bound cables h why r = by_reason why (flow_same s ca
 back_ends : (xs ys : List Cable) → SameEnds xs ys → SameEnds ys xs
 back_ends xs ys h = λ p. sym (h p)
 
+-- a reason of a load, a walk or a power
+abbrev pub IsFlow : Why → Type 0
+IsFlow (Load p) = Unit {0}
+IsFlow (Loop p) = Unit {0}
+IsFlow (Power p) = Unit {0}
+IsFlow (RowWhy row) = ⊥
+IsFlow (Pair a b) = ⊥
+IsFlow Ceiling = ⊥
+
 -- and such a reason of the node is theirs
-pub load_dead : (s : Site) (arcs : List Arc) (rows : List Row) (marks : List Mark) (bound : ℕ) (cables : List Cable) → SameEnds cables (used_cables arcs marks) → (p : ℕ) → IsDead s arcs rows marks bound (Load p) → IsFlowReason s cables (Load p)
-load_dead s arcs rows marks bound cables h p r = flow_same s (used_cables arcs marks) cables (back_ends cables (used_cables arcs marks) h) (Load p) r
+pub dead_flow : (s : Site) (arcs : List Arc) (rows : List Row) (marks : List Mark) (bound : ℕ) (cables : List Cable) → SameEnds cables (used_cables arcs marks) → (why : Why) → IsFlow why → IsDead s arcs rows marks bound why → IsFlowReason s cables why
+dead_flow s arcs rows marks bound cables h why is d = by_reason why is d
+  where
+    back : (w : Why) → IsFlowReason s (used_cables arcs marks) w → IsFlowReason s cables w
+    back w k = flow_same s (used_cables arcs marks) cables (back_ends cables (used_cables arcs marks) h) w k
 
-pub loop_dead : (s : Site) (arcs : List Arc) (rows : List Row) (marks : List Mark) (bound : ℕ) (cables : List Cable) → SameEnds cables (used_cables arcs marks) → (p : ℕ) → IsDead s arcs rows marks bound (Loop p) → IsFlowReason s cables (Loop p)
-loop_dead s arcs rows marks bound cables h p r = flow_same s (used_cables arcs marks) cables (back_ends cables (used_cables arcs marks) h) (Loop p) r
-
-pub power_dead : (s : Site) (arcs : List Arc) (rows : List Row) (marks : List Mark) (bound : ℕ) (cables : List Cable) → SameEnds cables (used_cables arcs marks) → (p : ℕ) → IsDead s arcs rows marks bound (Power p) → IsFlowReason s cables (Power p)
-power_dead s arcs rows marks bound cables h p r = flow_same s (used_cables arcs marks) cables (back_ends cables (used_cables arcs marks) h) (Power p) r
+    by_reason : (w : Why) → IsFlow w → IsDead s arcs rows marks bound w → IsFlowReason s cables w
+    by_reason (Load p) i k = back (Load p) k
+    by_reason (Loop p) i k = back (Loop p) k
+    by_reason (Power p) i k = back (Power p) k
+    by_reason (RowWhy row) i k = absurd i
+    by_reason (Pair a b) i k = absurd i
+    by_reason Ceiling i k = absurd i

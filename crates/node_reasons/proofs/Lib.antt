@@ -12,3 +12,5 @@ pub mod DeadReasons
 pub mod FullLayouts
 -- sums of extremes over some of the arcs
 pub mod OwnSums
+-- the sums of what a row counts in the box of a node
+pub mod RowSums

@@ -6,22 +6,68 @@ ghost use Rattle.cable_definitions.specs.Arcs.{AreArcs};
 ghost use Rattle.cable_definitions.specs.Tree.{IsDead, ceiling as ceiling_of};
 
 use crate::flows::{find_flow_reason, is_flow_reason};
+use crate::node::NodeBox;
 use crate::pairs::{find_pair, is_used_pair};
 use crate::rows::{cannot_meet, find_row};
-use crate::used::used_arcs;
 use bound_value::{Decisions, ceiling};
 use cable_definitions::row::Why;
 use cable_rows::RowPool;
 use candidate_cables::Arcs;
 use site_model::Site;
 
-/// Whether a bound is above the ceiling of the site.
-fn is_above_ceiling(site: &Site, arcs: &Arcs, bound: i128) -> bool
-    requires arcs { AreArcs site.now arcs.now }
-    requires not_negative { pos 0 ≤ℤ bound }
-    ensures { IsTrue result ↔ (ceiling_of site.now arcs.now < nat_abs bound) }
+/// Whether a bound is above a ceiling.
+fn is_above(bound: i128, ceiling: u64) -> bool
+    requires { pos 0 ≤ℤ bound }
+    ensures { IsTrue result ↔ (ceiling < nat_abs bound) }
 {
-    bound as u128 > u128::from(ceiling(site, arcs))
+    bound as u128 > u128::from(ceiling)
+}
+
+impl<'a> NodeBox<'a> {
+    /// Whether a reason is true of the node with this bound, in cost units, where these rows are listed and this is the ceiling of the site. A
+    /// number that is none of the rows, arcs or points makes no reason true. It takes no memory.
+    pub fn is_dead(&self, pool: &RowPool, bound: i128, ceiling: u64, why: Why) -> bool
+        requires not_negative { pos 0 ≤ℤ bound }
+        requires ceiling { ceiling ≡ ceiling_of self.now.site self.now.arcs }
+        ensures { IsTrue result ↔ IsDead self.now.site self.now.arcs pool.now self.now.marks (nat_abs bound) why }
+    {
+        match why {
+            Why::Row(row) => {
+                if row >= pool.len() {
+                    return false;
+                }
+                cannot_meet(self, pool, row)
+            }
+            Why::Pair(a, b) => is_used_pair(self, a, b),
+            Why::Ceiling => is_above(bound, ceiling),
+            Why::Load(_) | Why::Loop(_) | Why::Power(_) => {
+                is_flow_reason(self.site, self.used.cables(), why)
+            }
+        }
+    }
+
+    /// A reason that is true of the node with this bound, in cost units, where these rows are listed and this is the ceiling of the site; none
+    /// exactly where no reason is. It takes no memory.
+    pub fn find_dead(&self, pool: &RowPool, bound: i128, ceiling: u64) -> Option<Why>
+        requires not_negative { pos 0 ≤ℤ bound }
+        requires ceiling { ceiling ≡ ceiling_of self.now.site self.now.arcs }
+        ensures dead { IfSome result (IsDead self.now.site self.now.arcs pool.now self.now.marks (nat_abs bound)) }
+        ensures none { IfNone result ((why : AReason) → ¬ (IsDead self.now.site self.now.arcs pool.now self.now.marks (nat_abs bound) why)) }
+    {
+        if let Some((a, b)) = find_pair(self) {
+            return Some(Why::Pair(a, b));
+        }
+        if let Some(why) = find_flow_reason(self.site, self.used.cables()) {
+            return Some(why);
+        }
+        if let Some(row) = find_row(self, pool) {
+            return Some(Why::Row(row));
+        }
+        if is_above(bound, ceiling) {
+            return Some(Why::Ceiling);
+        }
+        None
+    }
 }
 
 /// Whether a reason is true of a node with these decisions and this bound, in cost units, where these rows are listed. A number that is
@@ -39,19 +85,7 @@ pub fn is_dead(
     requires not_negative { pos 0 ≤ℤ bound }
     ensures { IsTrue result ↔ IsDead site.now arcs.now pool.now decisions.now (nat_abs bound) why }
 {
-    match why {
-        Why::Row(row) => {
-            if row >= pool.len() {
-                return false;
-            }
-            cannot_meet(site, arcs, pool, decisions, row)
-        }
-        Why::Pair(a, b) => is_used_pair(site, arcs, decisions, a, b),
-        Why::Ceiling => is_above_ceiling(site, arcs, bound),
-        Why::Load(p) => is_flow_reason(site, used_arcs(site, arcs, decisions).cables(), why),
-        Why::Loop(p) => is_flow_reason(site, used_arcs(site, arcs, decisions).cables(), why),
-        Why::Power(p) => is_flow_reason(site, used_arcs(site, arcs, decisions).cables(), why),
-    }
+    NodeBox::new(site, arcs, decisions).is_dead(pool, bound, ceiling(site, arcs), why)
 }
 
 /// A reason that is true of a node with these decisions and this bound, in cost units, where these rows are listed; none exactly where no
@@ -69,21 +103,5 @@ pub fn find_dead(
     ensures dead { IfSome result (IsDead site.now arcs.now pool.now decisions.now (nat_abs bound)) }
     ensures none { IfNone result ((why : AReason) → ¬ (IsDead site.now arcs.now pool.now decisions.now (nat_abs bound) why)) }
 {
-    let used = used_arcs(site, arcs, decisions);
-    match find_pair(site, arcs, decisions, &used) {
-        Some((a, b)) => return Some(Why::Pair(a, b)),
-        None => (),
-    }
-    match find_flow_reason(site, used.cables()) {
-        Some(why) => return Some(why),
-        None => (),
-    }
-    match find_row(site, arcs, pool, decisions) {
-        Some(row) => return Some(Why::Row(row)),
-        None => (),
-    }
-    if is_above_ceiling(site, arcs, bound) {
-        return Some(Why::Ceiling);
-    }
-    None
+    NodeBox::new(site, arcs, decisions).find_dead(pool, bound, ceiling(site, arcs))
 }

@@ -1,45 +1,16 @@
 //! Loads and walks over the used arcs that no legal layout has.
 
-ghost use Rattle.std.specs.Prelude.{◌≡◌, ℕ, ◌≤◌, ◌<◌, ◌↔◌, IsTrue, IfSome, IfNone, length};
+ghost use Rattle.std.specs.Prelude.{ℕ, ◌↔◌, IsTrue, IfSome, IfNone};
 ghost use Rattle.cable_definitions.specs.declared.row.Why.{Why as AReason};
-ghost use Rattle.cable_definitions.specs.Site.{IsKind};
-ghost use Rattle.cable_definitions.specs.Arcs.{kind_of, largest_capacity as largest_capacity_of};
-ghost use Rattle.cable_definitions.specs.Choice.{least_load as least_load_of};
 ghost use Rattle.cable_definitions.specs.Walk.{load as load_of};
-ghost use Rattle.layout_meaning.specs.Loads.{AreLoads};
 ghost use Rattle.node_reasons.specs.Reasons.{IsOverloaded, IsOverpowered, Returns, IsFlowReason};
 
 use cable_definitions::row::Why;
-use layout_meaning::{Cable, Outgoing, all_loads, load};
+use layout_meaning::{Cable, Flows, Outgoing, load};
 use site_model::{Kind, Site};
 
 /// The most steps of a walk: one for each point that a site may have.
 const MOST_STEPS: u32 = 256;
-
-/// The kind of a point by its number; a number past the points counts as a bend.
-pub(crate) fn kind_at(site: &Site, p: u32) -> Kind
-    ensures kind { result ≡ kind_of site.now p }
-    ensures valid { IsKind result }
-{
-    let points = site.points();
-    if p as usize >= points.len() {
-        return Kind::Bend;
-    }
-    points[p as usize].kind
-}
-
-/// The largest capacity of the cable types, in power units.
-pub(crate) fn largest_capacity(site: &Site) -> u32
-    ensures largest { result ≡ largest_capacity_of site.now }
-    ensures some { 1 ≤ result }
-    ensures most { result ≤ 10000 }
-{
-    let mut most = 0;
-    for cable_type in site.types() {
-        most = most.max(cable_type.capacity);
-    }
-    most
-}
 
 /// Whether a load is more than any cable out of the point bears.
 pub(crate) fn is_overloaded(site: &Site, p: u32, load: u32) -> bool
@@ -48,10 +19,10 @@ pub(crate) fn is_overloaded(site: &Site, p: u32, load: u32) -> bool
     if p as usize >= site.points().len() {
         return false;
     }
-    match kind_at(site, p) {
+    match site.kind(p) {
         Kind::Substation { .. } => false,
-        Kind::Turbine { .. } => load > largest_capacity(site),
-        Kind::Bend => load > largest_capacity(site),
+        Kind::Turbine { .. } => load > site.largest_capacity(),
+        Kind::Bend => load > site.largest_capacity(),
     }
 }
 
@@ -59,7 +30,7 @@ pub(crate) fn is_overloaded(site: &Site, p: u32, load: u32) -> bool
 pub(crate) fn is_overpowered(site: &Site, p: u32, load: u32) -> bool
     ensures { IsTrue result ↔ IsOverpowered site.now p load }
 {
-    match kind_at(site, p) {
+    match site.kind(p) {
         Kind::Substation { feeders, power } => load > power,
         Kind::Turbine { .. } => false,
         Kind::Bend => false,
@@ -97,28 +68,28 @@ fn find_loop(cables: &Outgoing) -> Option<u32>
 }
 
 /// A point whose cable can't bear its load.
-fn find_overloaded(site: &Site, cables: &Outgoing, loads: &[u32; 256]) -> Option<u32>
-    requires { AreLoads site.now cables.now loads.now }
-    ensures some { IfSome result (λ p. IsOverloaded site.now p (load_of site.now cables.now p)) }
-    ensures none { IfNone result ((p : ℕ) → ¬ (IsOverloaded site.now p (load_of site.now cables.now p))) }
+fn find_overloaded(flows: &Flows) -> Option<u32>
+    ensures some { IfSome result (λ p. IsOverloaded flows.now.site p (load_of flows.now.site flows.now.cables p)) }
+    ensures none { IfNone result ((p : ℕ) → ¬ (IsOverloaded flows.now.site p (load_of flows.now.site flows.now.cables p))) }
 {
-    for p in 0..site.points().len() {
-        if is_overloaded(site, p as u32, loads[p]) {
-            return Some(p as u32);
+    let site = flows.site();
+    for p in 0..site.points().len() as u32 {
+        if is_overloaded(site, p, flows.load(p)) {
+            return Some(p);
         }
     }
     None
 }
 
 /// A substation that takes more than its power.
-fn find_overpowered(site: &Site, cables: &Outgoing, loads: &[u32; 256]) -> Option<u32>
-    requires { AreLoads site.now cables.now loads.now }
-    ensures some { IfSome result (λ p. IsOverpowered site.now p (load_of site.now cables.now p)) }
-    ensures none { IfNone result ((p : ℕ) → ¬ (IsOverpowered site.now p (load_of site.now cables.now p))) }
+fn find_overpowered(flows: &Flows) -> Option<u32>
+    ensures some { IfSome result (λ p. IsOverpowered flows.now.site p (load_of flows.now.site flows.now.cables p)) }
+    ensures none { IfNone result ((p : ℕ) → ¬ (IsOverpowered flows.now.site p (load_of flows.now.site flows.now.cables p))) }
 {
-    for p in 0..site.points().len() {
-        if is_overpowered(site, p as u32, loads[p]) {
-            return Some(p as u32);
+    let site = flows.site();
+    for p in 0..site.points().len() as u32 {
+        if is_overpowered(site, p, flows.load(p)) {
+            return Some(p);
         }
     }
     None
@@ -147,11 +118,11 @@ pub(crate) fn find_flow_reason(site: &Site, cables: &[Cable]) -> Option<Why>
     if let Some(p) = find_loop(&outgoing) {
         return Some(Why::Loop(p));
     }
-    let loads = all_loads(site, &outgoing);
-    if let Some(p) = find_overloaded(site, &outgoing, &loads) {
+    let flows = Flows::new(site, outgoing);
+    if let Some(p) = find_overloaded(&flows) {
         return Some(Why::Load(p));
     }
-    if let Some(p) = find_overpowered(site, &outgoing, &loads) {
+    if let Some(p) = find_overpowered(&flows) {
         return Some(Why::Power(p));
     }
     None

@@ -4,9 +4,8 @@ ghost use Rattle.std.specs.Prelude.{◌≡◌, ◌≢◌, ℕ, ◌≤◌, ◌<�
 ghost use Rattle.cable_definitions.specs.Arcs.{AreArcs};
 ghost use Rattle.cable_definitions.specs.Tree.{IsUsedPair};
 ghost use Rattle.node_reasons.specs.Reasons.{AreIncompatibleAt};
-ghost use Rattle.node_reasons.specs.Used.{AreUsed};
 
-use crate::used::UsedArcs;
+use crate::node::NodeBox;
 use bound_value::{Decisions, Mark};
 use candidate_cables::Arcs;
 use site_model::Site;
@@ -41,21 +40,19 @@ fn are_incompatible(site: &Site, arcs: &Arcs, a: u32, b: u32) -> bool
 }
 
 /// Whether two different arcs are both marked used and are incompatible.
-pub(crate) fn is_used_pair(site: &Site, arcs: &Arcs, decisions: &Decisions, a: u32, b: u32) -> bool
-    requires arcs { AreArcs site.now arcs.now }
-    requires count { length decisions.now ≡ length arcs.now }
-    ensures { IsTrue result ↔ ((a ≢ b) × IsUsedPair site.now arcs.now decisions.now a b) }
+pub(crate) fn is_used_pair(node: &NodeBox, a: u32, b: u32) -> bool
+    ensures { IsTrue result ↔ ((a ≢ b) × IsUsedPair node.now.site node.now.arcs node.now.marks a b) }
 {
     if a == b {
         return false;
     }
-    if !is_used(decisions, a) {
+    if !is_used(node.decisions, a) {
         return false;
     }
-    if !is_used(decisions, b) {
+    if !is_used(node.decisions, b) {
         return false;
     }
-    are_incompatible(site, arcs, a, b)
+    are_incompatible(node.site, node.arcs, a, b)
 }
 
 /// One of the first so many arcs that is incompatible with this one.
@@ -85,26 +82,18 @@ fn number_at(numbers: &[u32], place: usize) -> u32
 }
 
 /// Two used arcs that are incompatible.
-pub(crate) fn find_pair(
-    site: &Site,
-    arcs: &Arcs,
-    decisions: &Decisions,
-    used: &UsedArcs,
-) -> Option<(u32, u32)>
-    requires arcs { AreArcs site.now arcs.now }
-    requires count { length decisions.now ≡ length arcs.now }
-    requires used { AreUsed arcs.now decisions.now used.now }
-    ensures pair { IfSome result (λ pair. (pair.0 ≢ pair.1) × IsUsedPair site.now arcs.now decisions.now pair.0 pair.1) }
-    ensures none { IfNone result ((a b : ℕ) → a ≢ b → ¬ (IsUsedPair site.now arcs.now decisions.now a b)) }
+pub(crate) fn find_pair(node: &NodeBox) -> Option<(u32, u32)>
+    ensures pair { IfSome result (λ pair. (pair.0 ≢ pair.1) × IsUsedPair node.now.site node.now.arcs node.now.marks pair.0 pair.1) }
+    ensures none { IfNone result ((a b : ℕ) → a ≢ b → ¬ (IsUsedPair node.now.site node.now.arcs node.now.marks a b)) }
 {
-    match used.twins() {
+    match node.used.twins() {
         Some(twins) => return Some(twins),
         None => (),
     }
-    let numbers = used.numbers();
+    let numbers = node.used.numbers();
     for place in 0..numbers.len() {
         let arc = number_at(numbers, place);
-        match incompatible_with(site, arcs, numbers, place, arc) {
+        match incompatible_with(node.site, node.arcs, numbers, place, arc) {
             Some(other) => return Some((other, arc)),
             None => (),
         }

@@ -19,6 +19,7 @@ use Rattle.cable_definitions.specs.Tree.{Node, ProofState, WasFull, mark_in, mar
 use Rattle.cable_definitions.specs.Refusal.{IsWorkable, IsActRefused, IsWorkRefused, cause_number, IsLeastCause}
 use Rattle.proof_laws.proofs.NearestValue.{value-same, bound-same}
 use Rattle.branch_tree.specs.State.{TreeState, nodes_after, tree_after, ActIsWithin}
+use Rattle.node_reasons.specs.Node.{NodeParts}
 use Rattle.proof_checker.specs.State.{kept_from}
 use Rattle.proof_checker.specs.Acts.{MayAct, MayNotAct}
 
@@ -149,3 +150,14 @@ work_refused s arcs n kept v weights act cause node value bound room w lawful fe
   holds = held s arcs n kept v weights act cause node value bound w is b h;
   least = λ other l. earlier_work s arcs n kept v weights act node room w lawful few other (let e = own_cause s arcs kept.rows (marks_of arcs kept.nodes v) bound act cause h in omega (arith, l, e));
 }
+
+-- ---- nodes as their reasons see them
+-- what may be done on the box of a node may be done on the node
+pub may-there : (s : Site) (arcs : List CandidateArc) (rows : List Row) (marks : List Mark) (node : NodeParts) (bound : ℕ) (act : Act) (after : ℕ) → node ≡ record { site = s; arcs = arcs; marks = marks }
+    → MayAct node.site node.arcs rows node.marks bound act after → MayAct s arcs rows marks bound act after
+may-there s arcs rows marks node bound act after same may = subst (λ (n : NodeParts). MayAct n.site n.arcs rows n.marks bound act after) same may
+
+-- and what may not be done on it may not be done on the node
+pub may-not-there : (s : Site) (arcs : List CandidateArc) (rows : List Row) (marks : List Mark) (node : NodeParts) (bound : ℕ) (act : Act) (cause : Cause) → node ≡ record { site = s; arcs = arcs; marks = marks }
+    → MayNotAct node.site node.arcs rows node.marks bound act cause → MayNotAct s arcs rows marks bound act cause
+may-not-there s arcs rows marks node bound act cause same not = subst (λ (n : NodeParts). MayNotAct n.site n.arcs rows n.marks bound act cause) same not

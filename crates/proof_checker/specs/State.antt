@@ -5,7 +5,7 @@ use Rattle.cable_definitions.specs.declared.claim.Cause.{Cause}
 use Rattle.cable_definitions.specs.Site.{Site}
 use Rattle.cable_definitions.specs.Arcs.{AreArcs}
 use Rattle.cable_definitions.specs.Row.{Row}
-use Rattle.cable_definitions.specs.Tree.{ProofState}
+use Rattle.cable_definitions.specs.Tree.{ProofState, ceiling}
 use Rattle.cable_definitions.specs.Refusal.{IsLeastCause}
 use Rattle.cable_definitions.specs.declared.claim.Refusal.{Refusal}
 use Rattle.branch_tree.specs.State.{TreeState}
@@ -22,9 +22,10 @@ pub record CheckerState : Type 0 where
 abbrev pub kept_from : List Row → TreeState → ProofState
 kept_from rows tree = record { rows = rows; nodes = tree.nodes; works = tree.works }
 
--- the arcs are those of the site, the tree is for them and for the budget, and there is a mark for each arc
-pub record IsChecker (s : Site) (arcs : List Arc) (budget : ℕ) (tree : TreeState) (marks : ℕ) : Type 0 where
+-- the arcs are those of the site, the limit is its ceiling, the tree is for them and for the budget, and there is a mark for each arc
+pub record IsChecker (s : Site) (arcs : List Arc) (budget limit : ℕ) (tree : TreeState) (marks : ℕ) : Type 0 where
   pub are_arcs : AreArcs s arcs
+  pub ceiling_is : limit ≡ ceiling s arcs
   pub tree_budget : tree.budget ≡ budget
   pub tree_arcs : tree.arcs ≡ length arcs
   pub marks_count : marks ≡ length arcs

@@ -10,7 +10,7 @@ ghost use Rattle.proof_checker.specs.Answers.{IsClosingBound};
 use crate::claims::{Bound, check_claim};
 use crate::rows::list_row;
 use crate::works::do_work;
-use bound_value::{Decisions, Work};
+use bound_value::{Decisions, Work, ceiling};
 use branch_tree::Tree;
 use cable_definitions::claim::{Cause, Claim, Refusal};
 use cable_definitions::row::RowKind;
@@ -28,6 +28,7 @@ pub struct Checker<'a> {
     site: &'a Site,
     arcs: Arcs,
     budget: u32,
+    ceiling: u64,
     pool: RowPool,
     tree: Tree,
     decisions: Decisions,
@@ -42,7 +43,7 @@ impl<'a> Model for Checker<'a> {
 
     ghost view = { λ c. record { site = c.site.now; arcs = c.arcs; budget = c.budget; kept = kept_from c.pool c.tree; refused = c.refused } };
 
-    ghost invariant = { λ c. IsChecker c.site.now c.arcs c.budget c.tree (length c.decisions) };
+    ghost invariant = { λ c. IsChecker c.site.now c.arcs c.budget c.ceiling c.tree (length c.decisions) };
 }
 
 /// Keeps the refusal of a line.
@@ -71,6 +72,7 @@ impl<'a> Checker<'a> {
         ensures refused { IfOk result (λ checker. checker.refused ≡ None) }
     {
         let arcs = Arcs::new(alloc, site)?;
+        let ceiling = ceiling(site, &arcs);
         let pool = RowPool::new(alloc)?;
         let tree = Tree::new(alloc, budget, arcs.len())?;
         let decisions = Decisions::new(alloc, arcs.len())?;
@@ -78,6 +80,7 @@ impl<'a> Checker<'a> {
             site,
             arcs,
             budget,
+            ceiling,
             pool,
             tree,
             decisions,
@@ -142,6 +145,7 @@ impl<'a> Checker<'a> {
             &mut self.tree,
             &mut self.decisions,
             self.budget,
+            self.ceiling,
             work,
         ) {
             Ok(()) => Ok(()),

@@ -4,7 +4,7 @@ ghost use Rattle.std.specs.Prelude.{◌≡◌, ℕ, ◌≤◌, ◌<◌, ◌^◌,
 ghost use Rattle.cable_definitions.specs.declared.cable.Arc.{Arc as AnArc};
 ghost use Rattle.cable_definitions.specs.Arcs.{AreArcs};
 ghost use Rattle.cable_definitions.specs.Choice.{AreLawful, IsValue};
-ghost use Rattle.cable_definitions.specs.Tree.{Node, node_of, marks_of, IsBound, IsWorked};
+ghost use Rattle.cable_definitions.specs.Tree.{Node, node_of, marks_of, IsBound, IsWorked, ceiling as ceiling_of};
 ghost use Rattle.cable_definitions.specs.Refusal.{IsWorkRefused, IsLeastCause};
 ghost use Rattle.branch_tree.specs.State.{tree_after, IsMade, IsUnworked, ActIsWithin};
 ghost use Rattle.proof_checker.specs.State.{kept_from};
@@ -16,6 +16,7 @@ use cable_definitions::claim::Cause;
 use cable_definitions::row::Act;
 use cable_rows::RowPool;
 use candidate_cables::Arcs;
+use node_reasons::NodeBox;
 use site_model::Site;
 
 /// Marks each arc as a node that was made decides it.
@@ -70,11 +71,13 @@ fn work_node(
     pool: &RowPool,
     tree: &mut Tree,
     decisions: &mut Decisions,
+    ceiling: u64,
     work: &Work,
 ) -> Result<(), Cause>
     requires arcs { AreArcs site.now arcs.now }
     requires tree_arcs { tree.old.arcs ≡ length arcs.now }
     requires count { length decisions.old ≡ length arcs.now }
+    requires ceiling { ceiling ≡ ceiling_of site.now arcs.now }
     requires lawful { AreLawful pool.now work.now.weights }
     requires few { length work.now.weights ≤ 1024 }
     requires room { tree.old.works < tree.old.budget }
@@ -88,7 +91,8 @@ fn work_node(
 {
     mark_arcs(arcs, tree, work.node, decisions);
     let bound = new_bound(site, arcs, pool, tree, decisions, work);
-    match bound_after(site, arcs, pool, decisions, bound, work.act) {
+    let node = NodeBox::new(site, arcs, decisions);
+    match bound_after(&node, pool, decisions, ceiling, bound, work.act) {
         Err(cause) => Err(cause),
         Ok(after) => {
             do_act(tree, work.node, work.act, after);
@@ -97,7 +101,7 @@ fn work_node(
     }
 }
 
-/// Does a work within the budget. It takes no memory.
+/// Does a work within the budget, where this is the ceiling of the site. It takes no memory.
 ///
 /// # Errors
 ///
@@ -110,12 +114,14 @@ pub(crate) fn do_work(
     tree: &mut Tree,
     decisions: &mut Decisions,
     budget: u32,
+    ceiling: u64,
     work: &Work,
 ) -> Result<(), Cause>
     requires arcs { AreArcs site.now arcs.now }
     requires tree_budget { tree.old.budget ≡ budget }
     requires tree_arcs { tree.old.arcs ≡ length arcs.now }
     requires count { length decisions.old ≡ length arcs.now }
+    requires ceiling { ceiling ≡ ceiling_of site.now arcs.now }
     ensures worked { OnOk result (IsWorked site.now arcs.now budget (kept_from pool.now tree.old) work.now.node work.now.weights work.now.act (kept_from pool.now tree.new)) }
     ensures refused { IfErr result (IsLeastCause (IsWorkRefused site.now arcs.now budget (kept_from pool.now tree.old) work.now.node work.now.weights work.now.act)) }
     ensures same { OnErr result (tree.new ≡ tree.old) }
@@ -134,5 +140,5 @@ pub(crate) fn do_work(
     if !lawful(pool, &work.weights) {
         return Err(Cause::Weight);
     }
-    work_node(site, arcs, pool, tree, decisions, work)
+    work_node(site, arcs, pool, tree, decisions, ceiling, work)
 }

@@ -89,6 +89,7 @@ acted s arcs kept v node known weights Full bound after value is chosen = (
 pub record IsActing (s : Site) (arcs : List Arc) (p q : Progress) (lane v : ℕ) (act : Act) (bound after : ℕ) : Type 0 where
   pub holds : slice_get p.lanes.items lane ≡ Some (Some v)
   pub limit : q.budget ≡ p.budget
+  pub same_ceiling : q.ceiling ≡ p.ceiling
   pub rest : List ℕ
   pub removed : IsPermutation p.open_nodes.items (v ∷ rest)
   pub node : Node
@@ -198,6 +199,7 @@ act-searching s arcs n p q lane v act bound after searching step =
       some = searching.some;
       most = searching.most;
       limit = step.limit ∙ searching.limit;
+      ceiling_is = step.same_ceiling ∙ searching.ceiling_is;
       budget = ap (λ (t : TreeState). t.budget) step.tree ∙ searching.budget;
       arcs_count = ap (λ (t : TreeState). t.arcs) step.tree ∙ searching.arcs_count;
       marks_count = ap length step.same_marks ∙ searching.marks_count;
@@ -242,7 +244,7 @@ open_by rest new (Dead why) count split other = other (λ a e. cc)
 open_by rest new Full count split other = other (λ a e. cc)
 
 -- what the calls of an act did
-pub is_acting : (s : Site) (arcs : List Arc) (p q : Progress) (lane v : ℕ) (act : Act) (bound : ℕ) (after : ℤ) (rest : List ℕ) (count : ℕ) → slice_get p.lanes.items lane ≡ Some (Some v) → q.budget ≡ p.budget
+pub is_acting : (s : Site) (arcs : List Arc) (p q : Progress) (lane v : ℕ) (act : Act) (bound : ℕ) (after : ℤ) (rest : List ℕ) (count : ℕ) → slice_get p.lanes.items lane ≡ Some (Some v) → q.budget ≡ p.budget → q.ceiling ≡ p.ceiling
     → IsPermutation p.open_nodes.items (v ∷ rest) → pos 0 ≤ℤ after → after <ℤ pos (2 ^ 100)
     → ((made : Node) → node_of p.tree.nodes v ≡ Some made → IsNodeBound s arcs p.pool p.decisions p.work.weights made.bound bound) → p.decisions ≡ marks_of arcs p.tree.nodes v → q.decisions ≡ p.decisions
     → IsActFor s arcs p.pool p.decisions p.known p.work.weights bound act (nat_abs after)
@@ -251,11 +253,12 @@ pub is_acting : (s : Site) (arcs : List Arc) (p q : Progress) (lane v : ℕ) (ac
     → (((a : ℕ) → ¬ (act ≡ Split a)) → q.open_nodes.items ≡ rest) → vec_capacity q.open_nodes ≡ vec_capacity p.open_nodes
     → Settles s arcs p.decisions act (nat_abs (to_z w128 (of_z w128 after))) p.known p.best q.known q.best
     → AreLawful p.pool p.work.weights → length p.work.weights ≤ 1024 → q.lanes.items ≡ slice_set p.lanes.items lane None → IsActing s arcs p q lane v act bound (nat_abs after)
-is_acting s arcs p q lane v act bound after rest count holds limit removed a0 a1 is marks same_marks chosen tree pool counted split other room settles lawful few_weights lanes =
+is_acting s arcs p q lane v act bound after rest count holds limit same_ceiling removed a0 a1 is marks same_marks chosen tree pool counted split other room settles lawful few_weights lanes =
     let same_after : nat_abs (to_z w128 (of_z w128 after)) ≡ nat_abs after = ap nat_abs (passed after a0 a1) in
     record {
       holds = holds;
       limit = limit;
+      same_ceiling = same_ceiling;
       rest = rest;
       removed = removed;
       node = tree.0;

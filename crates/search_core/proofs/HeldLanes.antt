@@ -171,6 +171,7 @@ take-searching s arcs n p q lane v is lanes empty wanted left h =
       some = h.some;
       most = h.most;
       limit = h.limit;
+      ceiling_is = h.ceiling_is;
       budget = h.budget;
       arcs_count = h.arcs_count;
       marks_count = h.marks_count;

@@ -10,7 +10,7 @@ use Rattle.std.proofs.lemmas.Option.{slice_get_within, get_or_from_slice_get}
 use Rattle.cable_definitions.specs.declared.cable.Arc.{Arc}
 use Rattle.cable_definitions.specs.Site.{Site, IsValid}
 use Rattle.cable_definitions.specs.Arcs.{AreArcs}
-use Rattle.cable_definitions.specs.Tree.{Leads, root, empty_state}
+use Rattle.cable_definitions.specs.Tree.{Leads, root, empty_state, ceiling}
 use Rattle.cable_definitions.specs.Core.{are_row_items, is_holding}
 use Rattle.proof_laws.specs.Decided.{HasPointRows}
 use Rattle.branch_tree.specs.State.{TreeState, new_tree}
@@ -32,9 +32,9 @@ none-counted : (count : ℕ) → count_by is_holding (replicate count nobody) �
 none-counted count = (let e = sum_by-replicate one_if_holding count nobody in omega (arith, e))
 
 -- a search that has listed the first rows and worked no node
-pub fresh-searching : (s : Site) (arcs : List Arc) (n lanes : ℕ) (p : Progress) → IsValid s → AreArcs s arcs → 1 ≤ n → n ≤ 50000 → lanes ≤ 16 → p.budget ≡ n → p.tree ≡ new_tree n (length arcs) → length p.decisions ≡ length arcs
+pub fresh-searching : (s : Site) (arcs : List Arc) (n lanes : ℕ) (p : Progress) → IsValid s → AreArcs s arcs → 1 ≤ n → n ≤ 50000 → lanes ≤ 16 → p.budget ≡ n → p.ceiling ≡ ceiling s arcs → p.tree ≡ new_tree n (length arcs) → length p.decisions ≡ length arcs
     → p.open_nodes.items ≡ 1 ∷ [] → n + 2 ≤ vec_capacity p.open_nodes → p.lanes.items ≡ replicate lanes nobody → Lists s arcs [] p.pool → HasPointRows s arcs p.pool → p.known ≡ None → IsSearching s arcs n p
-fresh-searching s arcs n lanes p valid are some most few limit tree marks open_nodes room empty lists rows known =
+fresh-searching s arcs n lanes p valid are some most few limit ceiling_is tree marks open_nodes room empty lists rows known =
     let works = ap (λ (t : TreeState). t.works) tree in
     let one = ap length open_nodes in
     let held = ap (count_by is_holding) empty ∙ none-counted lanes in
@@ -46,6 +46,7 @@ fresh-searching s arcs n lanes p valid are some most few limit tree marks open_n
       some = some;
       most = most;
       limit = limit;
+      ceiling_is = ceiling_is;
       budget = ap (λ (t : TreeState). t.budget) tree;
       arcs_count = ap (λ (t : TreeState). t.arcs) tree;
       marks_count = marks;

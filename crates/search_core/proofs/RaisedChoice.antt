@@ -1,5 +1,5 @@
 -- What is chosen on a node by raised weights.
-use Rattle.std.proofs.Common.{◌≡◌, ◌≢◌, ℕ, ◌^◌, ◌≤◌, ℤ, pos, negsuc, ◌≤ℤ◌, ◌<ℤ◌, List, length, slice_get, Some, None, Option, Result, IfOk, sym, ◌∙◌, ap, subst, arith}
+use Rattle.std.proofs.Common.{◌≡◌, ◌≢◌, ℕ, ◌^◌, ◌≤◌, ℤ, pos, negsuc, ◌≤ℤ◌, ◌<ℤ◌, List, [], length, slice_get, Some, None, Option, Result, IfOk, sym, ◌∙◌, ap, subst, arith, rules}
 use Rattle.std.specs.Prelude.{nat_abs}
 use Rattle.std.proofs.lemmas.Int.{ints, to_z-of_z}
 use Rattle.std.specs.Int.{w128}
@@ -12,10 +12,12 @@ use Rattle.cable_definitions.specs.declared.row.Act.TheVariants.{Split, Stop, De
 use Rattle.cable_definitions.specs.Site.{Site, IsValid}
 use Rattle.cable_definitions.specs.Arcs.{AreArcs}
 use Rattle.cable_definitions.specs.Row.{Row}
+use Rattle.cable_definitions.specs.Choice.{AreLawful, IsValue}
 use Rattle.cable_definitions.specs.Core.{HasLift}
 use Rattle.cable_definitions.specs.Tree.{IsBound}
 use Rattle.proof_laws.specs.Decided.{HasPointRows}
 use Rattle.proof_laws.proofs.FullWhole.{full-from}
+use Rattle.node_reasons.specs.Node.{NodeParts}
 use Rattle.search_core.specs.Chosen.{Closes, NeedsSplit, IsActFor, IsNodeBound}
 use Rattle.search_core.specs.Raised.{IsRaised}
 use Rattle.search_core.specs.Settled.{IsSettled, IsSettledAt}
@@ -119,6 +121,11 @@ chosen-passed s arcs rows marks known parent weights result h k chosen =
     (passed-bound parent h k) chosen
 
 -- ---- bounds that are passed on
+-- what is done with the box of a node is done with the node of its site, arcs and marks
+pub settled-there : (s : Site) (arcs : List Arc) (rows : List Row) (marks : List Mark) (node : NodeParts) (known : Option ℕ) (bound : ℕ) (closed : Option Choice) → node ≡ record { site = s; arcs = arcs; marks = marks }
+    → IsSettled node.site node.arcs rows node.marks known bound closed → IsSettled s arcs rows marks known bound closed
+settled-there s arcs rows marks node known bound closed same settled = subst (λ (n : NodeParts). IsSettled n.site n.arcs rows n.marks known bound closed) same settled
+
 -- what is known of a node at the bound that was computed
 pub settled-at : (s : Site) (arcs : List Arc) (rows : List Row) (marks : List Mark) (known : Option ℕ) (parent value bound : ℤ) (closed : Option Choice) → pos 0 ≤ℤ parent → parent <ℤ pos (2 ^ 100)
     → nat_abs value ≤ 10 ^ 36 → IsBound (nat_abs (to_z w128 (of_z w128 parent))) (to_z w128 (of_z w128 value)) (nat_abs bound) → pos 0 ≤ℤ bound
@@ -139,3 +146,17 @@ pub settled-kept : (s : Site) (arcs : List Arc) (rows new : List Row) (marks : L
     → IsSettledAt s arcs rows marks known parent value closed → IsSettledAt s arcs new marks known parent after closed
 settled-kept s arcs rows new marks known parent value after closed e f settled =
     subst (λ (v : ℤ). IsSettledAt s arcs new marks known parent v closed) (sym f) (subst (λ (r : List Row). IsSettledAt s arcs r marks known parent value closed) (sym e) settled)
+
+-- no weights are lawful
+pub none-lawful : (rows : List Row) → AreLawful rows []
+none-lawful rows = record { ascending = search rules; listed = search rules; not_zero = search rules; small = search rules; signs = search rules }
+
+-- what closes a node at the bound of its weights
+pub bare-chosen : (s : Site) (arcs : List Arc) (rows : List Row) (marks : List Mark) (known : Option ℕ) (parent value : ℤ) (weights : List (ℕ × ℤ)) (choice : Choice) → IsValue s arcs rows marks weights value
+    → IsSettledAt s arcs rows marks known (nat_abs parent) value (Some choice)
+    → (bound : ℕ) × IsNodeBound s arcs rows marks weights (nat_abs parent) bound × IsActFor s arcs rows marks known weights bound choice.act (nat_abs choice.bound)
+bare-chosen s arcs rows marks known parent value weights choice is settled = (
+  settled.bound,
+  record { value = value; is_value = is; is_bound = settled.is_bound },
+  closes-act s arcs rows marks known weights settled.bound (nat_abs choice.bound) choice.act settled.settled.closes,
+)

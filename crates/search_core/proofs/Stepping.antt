@@ -103,6 +103,7 @@ searching-listed s arcs n p q is marks lists h =
       some = h.some;
       most = h.most;
       limit = h.limit;
+      ceiling_is = h.ceiling_is;
       budget = h.budget;
       arcs_count = h.arcs_count;
       marks_count = marks;

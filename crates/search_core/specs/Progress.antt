@@ -8,7 +8,7 @@ use Rattle.cable_definitions.specs.declared.row.Act.TheVariants.{Split, Stop, De
 use Rattle.cable_definitions.specs.Site.{Site, IsValid}
 use Rattle.cable_definitions.specs.Arcs.{AreArcs}
 use Rattle.cable_definitions.specs.Layout.{IsLegal, cost}
-use Rattle.cable_definitions.specs.Tree.{Status, Unworked, WasSplit, Stopped, WasDead, WasFull, Node, Item, ProofState, node_of, IsAccepted, IsFull}
+use Rattle.cable_definitions.specs.Tree.{Status, Unworked, WasSplit, Stopped, WasDead, WasFull, Node, Item, ProofState, node_of, IsAccepted, IsFull, ceiling}
 use Rattle.cable_definitions.specs.Core.{Core, held_count}
 use Rattle.proof_laws.specs.Decided.{HasPointRows}
 use Rattle.branch_tree.specs.State.{IsUnworked}
@@ -59,7 +59,7 @@ abbrev pub IsKnown : Site → List Cable → Option ℕ → Type 0
 IsKnown s cables None = Unit {0}
 IsKnown s cables (Some total) = IsLegal s cables × (cost s cables ≡ total)
 
--- What holds before each event: the items so far are accepted, the rows on the cables of single points are listed, the lists fit the tree, and the known
+-- What holds before each event: the ceiling is that of the site, the items so far are accepted, the rows on the cables of single points are listed, the lists fit the tree, and the known
 -- cost is that of the known layout, which is legal.
 pub record IsSearching (s : Site) (arcs : List Arc) (n : ℕ) (p : Progress) : Type 0 where
   pub valid : IsValid s
@@ -67,6 +67,7 @@ pub record IsSearching (s : Site) (arcs : List Arc) (n : ℕ) (p : Progress) : T
   pub some : 1 ≤ n
   pub most : n ≤ 50000
   pub limit : p.budget ≡ n
+  pub ceiling_is : p.ceiling ≡ ceiling s arcs
   pub budget : p.tree.budget ≡ n
   pub arcs_count : p.tree.arcs ≡ length arcs
   pub marks_count : length p.decisions ≡ length arcs

@@ -4,6 +4,7 @@ ghost use Rattle.std.specs.Prelude.{◌≡◌, ◌≢◌, ℕ, ◌^◌, ◌≤�
 ghost use Rattle.cable_definitions.specs.Arcs.{AreArcs};
 ghost use Rattle.cable_definitions.specs.Choice.{AreLawful};
 ghost use Rattle.cable_definitions.specs.Row.{IsWellFormed};
+ghost use Rattle.cable_definitions.specs.Tree.{ceiling as ceiling_of};
 ghost use Rattle.proof_laws.specs.Decided.{HasPointRows};
 ghost use Rattle.stored_makers.specs.Makers.{MakesSoundRows};
 ghost use Rattle.stored_makers.specs.Choosers.{ChoosesFreeArcs, AreBeside};
@@ -20,6 +21,7 @@ use bound_value::{Decisions, Mark, Weights, rounded_bound, weigh};
 use branch_tree::Act;
 use cable_rows::{Row, RowPool};
 use candidate_cables::Arcs;
+use node_reasons::NodeBox;
 use row_lifts::copied;
 use site_model::Site;
 use std::alloc::{AllocError, Global};
@@ -59,6 +61,8 @@ fn choose_with_rows<
     chooser: &Chooser<G>,
     pool: &mut RowPool,
     decisions: &Decisions,
+    node: &NodeBox,
+    ceiling: u64,
     known: Option<u64>,
     parent: i128,
     turns: u32,
@@ -67,6 +71,8 @@ fn choose_with_rows<
 ) -> Result<Choice, AllocError>
     requires arcs { AreArcs site.now arcs.now }
     requires marks_count { length decisions.now ≡ length arcs.now }
+    requires node { node.now ≡ record { site = site.now; arcs = arcs.now; marks = decisions.now } }
+    requires ceiling { ceiling ≡ ceiling_of site.now arcs.now }
     requires rows { HasPointRows site.now arcs.now pool.old }
     requires well_formed { All (IsWellFormed site.now arcs.now) pool.old }
     requires makes { MakesSoundRows F.Fn maker.old.make maker.old.site }
@@ -93,7 +99,7 @@ fn choose_with_rows<
     let _valid = site.points();
     let mut worth = improved_weights(alloc, site, arcs, pool, decisions, last, turns)?;
     let closed = sharpen(
-        alloc, site, arcs, maker, pool, decisions, known, parent, &mut worth,
+        alloc, site, arcs, maker, pool, decisions, node, ceiling, known, parent, &mut worth,
     )?;
     let Worth {
         weights: raised,
@@ -111,7 +117,7 @@ fn choose_with_rows<
     }
 }
 
-/// Chooses what is done with a node with these decisions, where this cost is known, lists the rows that this takes, and leaves the weights of the work in
+/// Chooses what is done with a node with these decisions, where this is the ceiling of the site and this cost is known, lists the rows that this takes, and leaves the weights of the work in
 /// `weights`; `last` are the weights with which these begin, and become those that were raised. A node that needs no split by the bound of the node above,
 /// `parent`, and by what its used arcs cost, has no weights.
 ///
@@ -129,6 +135,7 @@ pub(crate) fn choose<
     chooser: &Chooser<G>,
     pool: &mut RowPool,
     decisions: &Decisions,
+    ceiling: u64,
     known: Option<u64>,
     parent: i128,
     turns: u32,
@@ -137,6 +144,7 @@ pub(crate) fn choose<
 ) -> Result<Choice, AllocError>
     requires arcs { AreArcs site.now arcs.now }
     requires marks_count { length decisions.now ≡ length arcs.now }
+    requires ceiling { ceiling ≡ ceiling_of site.now arcs.now }
     requires rows { HasPointRows site.now arcs.now pool.old }
     requires well_formed { All (IsWellFormed site.now arcs.now) pool.old }
     requires makes { MakesSoundRows F.Fn maker.old.make maker.old.site }
@@ -160,10 +168,12 @@ pub(crate) fn choose<
 {
     weights.clear();
     let bare = rounded_bound(parent, weigh(site, arcs, pool, decisions, weights));
-    match closing(site, arcs, pool, decisions, known, bare) {
+    let node = NodeBox::new(site, arcs, decisions);
+    match closing(&node, pool, ceiling, known, bare) {
         Some(choice) => Ok(choice),
         None => choose_with_rows(
-            alloc, site, arcs, maker, chooser, pool, decisions, known, parent, turns, last, weights,
+            alloc, site, arcs, maker, chooser, pool, decisions, &node, ceiling, known, parent,
+            turns, last, weights,
         ),
     }
 }

@@ -1,16 +1,13 @@
 //! What is done with a node that needs no split.
 
-ghost use Rattle.std.specs.Prelude.{◌≡◌, ◌↔◌, ◌^◌, pos, ◌≤ℤ◌, ◌<ℤ◌, unsigned_abs, length, IsTrue};
-ghost use Rattle.cable_definitions.specs.Arcs.{AreArcs};
+ghost use Rattle.std.specs.Prelude.{◌≡◌, ◌↔◌, ◌^◌, pos, ◌≤ℤ◌, ◌<ℤ◌, unsigned_abs, IsTrue};
+ghost use Rattle.cable_definitions.specs.Tree.{ceiling as ceiling_of};
 ghost use Rattle.search_core.specs.Chosen.{IsBeaten};
 ghost use Rattle.search_core.specs.Settled.{IsSettled};
 
-use bound_value::Decisions;
 use branch_tree::Act;
 use cable_rows::RowPool;
-use candidate_cables::Arcs;
-use node_reasons::{find_dead, is_full};
-use site_model::Site;
+use node_reasons::NodeBox;
 
 /// An act on a node, and the bound that the node has after it, in cost units.
 #[derive(Clone, Copy)]
@@ -30,27 +27,25 @@ pub(crate) fn is_beaten(known: Option<u64>, bound: i128) -> bool
     }
 }
 
-/// What is done with a node with these decisions and this bound, where this cost is known, if it needs no split: it is dead, or full, or stopped since no
+/// What is done with a node with this bound, where this is the ceiling of the site and this cost is known, if it needs no split: it is dead, or full, or stopped since no
 /// layout in its box is cheaper than the known one.
 pub(crate) fn closing(
-    site: &Site,
-    arcs: &Arcs,
+    node: &NodeBox,
     pool: &RowPool,
-    decisions: &Decisions,
+    ceiling: u64,
     known: Option<u64>,
     bound: i128,
 ) -> Option<Choice>
-    requires arcs { AreArcs site.now arcs.now }
-    requires marks_count { length decisions.now ≡ length arcs.now }
+    requires ceiling { ceiling ≡ ceiling_of node.now.site node.now.arcs }
     requires not_negative { pos 0 ≤ℤ bound }
     requires small { bound <ℤ pos (2 ^ 100) }
-    ensures settled { IsSettled site.now arcs.now pool.now decisions.now known (unsigned_abs bound) result }
+    ensures settled { IsSettled node.now.site node.now.arcs pool.now node.now.marks known (unsigned_abs bound) result }
 {
-    if let Some(why) = find_dead(site, arcs, pool, decisions, bound) {
+    if let Some(why) = node.find_dead(pool, bound, ceiling) {
         let act = Act::Dead(why);
         return Some(Choice { act, bound });
     }
-    if let Some(cost) = is_full(site, arcs, decisions) {
+    if let Some(cost) = node.is_full() {
         let bound = i128::from(cost);
         return Some(Choice {
             act: Act::Full,

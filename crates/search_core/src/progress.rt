@@ -16,7 +16,7 @@ ghost use Rattle.search_core.specs.Progress.{kept_of, known_by, core_of, IsSearc
 use crate::closing::{Choice, is_beaten};
 use crate::open::first_wanted;
 use crate::rows::list_first_rows;
-use bound_value::{Decisions, Weights, Work};
+use bound_value::{Decisions, Weights, Work, ceiling};
 use branch_tree::{Act, Tree};
 use cable_rows::RowPool;
 use candidate_cables::Arcs;
@@ -25,12 +25,13 @@ use node_reasons::full_layout;
 use site_model::Site;
 use std::alloc::{AllocError, Global};
 
-/// The most works, the rows, the tree and its nodes that aren't worked, the node that each lane holds, and the known layout with its cost where one is
+/// The most works, the ceiling of the site in cost units, the rows, the tree and its nodes that aren't worked, the node that each lane holds, and the known layout with its cost where one is
 /// known. The decisions are those of the node that is worked, the work is the last that was done, and the last weights are those with which the next work
 /// begins: those that were raised last, or at node 1 those that prove the cost of the cheapest in-tree.
 #[derive(Drop)]
 pub(crate) struct Progress {
     pub(crate) budget: u32,
+    pub(crate) ceiling: u64,
     pub(crate) pool: RowPool,
     pub(crate) tree: Tree,
     pub(crate) decisions: Decisions,
@@ -190,6 +191,7 @@ impl Progress {
         list_first_rows(site, arcs, &mut pool);
         Ok(Progress {
             budget,
+            ceiling: ceiling(site, arcs),
             pool,
             tree: Tree::new(alloc, budget, count)?,
             decisions: Decisions::new(alloc, count)?,

@@ -3,6 +3,7 @@
 ghost use Rattle.std.specs.Prelude.{◌≡◌, ◌^◌, pos, ◌≤ℤ◌, ◌<ℤ◌, unsigned_abs, length, false, Ok, All, OnOk, IfOk, IfNone};
 ghost use Rattle.cable_definitions.specs.Arcs.{AreArcs};
 ghost use Rattle.cable_definitions.specs.Row.{IsWellFormed};
+ghost use Rattle.cable_definitions.specs.Tree.{ceiling as ceiling_of};
 ghost use Rattle.stored_makers.specs.Makers.{MakesSoundRows};
 ghost use Rattle.search_core.specs.Lists.{Lists};
 ghost use Rattle.search_core.specs.Calls.{IsOneCall, IsCalled};
@@ -15,6 +16,7 @@ use bound_shares::Shares;
 use bound_value::{Decisions, rounded_bound};
 use cable_rows::{Row, RowPool};
 use candidate_cables::Arcs;
+use node_reasons::NodeBox;
 use site_model::Site;
 use std::alloc::{AllocError, Global};
 use stored_makers::CutMaker;
@@ -76,12 +78,16 @@ pub(crate) fn sharpen<F: Fn(&Site, &Arcs, &Shares) -> Result<Option<Row>, AllocE
     maker: &mut CutMaker<'_, F>,
     pool: &mut RowPool,
     decisions: &Decisions,
+    node: &NodeBox,
+    ceiling: u64,
     known: Option<u64>,
     parent: i128,
     worth: &mut Worth,
 ) -> Result<Option<Choice>, AllocError>
     requires arcs { AreArcs site.now arcs.now }
     requires marks_count { length decisions.now ≡ length arcs.now }
+    requires node { node.now ≡ record { site = site.now; arcs = arcs.now; marks = decisions.now } }
+    requires ceiling { ceiling ≡ ceiling_of site.now arcs.now }
     requires well_formed { All (IsWellFormed site.now arcs.now) pool.old }
     requires makes { MakesSoundRows F.Fn maker.old.make maker.old.site }
     requires maker_site { maker.old.site ≡ site.now }
@@ -98,7 +104,7 @@ pub(crate) fn sharpen<F: Fn(&Site, &Arcs, &Shares) -> Result<Option<Row>, AllocE
 {
     for call in 0..MOST_CALLS {
         let bound = rounded_bound(parent, worth.value);
-        if let Some(choice) = closing(site, arcs, pool, decisions, known, bound) {
+        if let Some(choice) = closing(node, pool, ceiling, known, bound) {
             return Ok(Some(choice));
         }
         if !cut_again(alloc, site, arcs, maker, pool, decisions, worth)? {
@@ -106,5 +112,5 @@ pub(crate) fn sharpen<F: Fn(&Site, &Arcs, &Shares) -> Result<Option<Row>, AllocE
         }
     }
     let bound = rounded_bound(parent, worth.value);
-    Ok(closing(site, arcs, pool, decisions, known, bound))
+    Ok(closing(node, pool, ceiling, known, bound))
 }

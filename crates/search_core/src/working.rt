@@ -124,6 +124,7 @@ pub(crate) fn work_node<
         chooser,
         &mut progress.pool,
         &progress.decisions,
+        progress.ceiling,
         progress.known,
         parent,
         turns_of(node),

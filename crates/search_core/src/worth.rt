@@ -7,11 +7,11 @@ ghost use Rattle.cable_definitions.specs.Row.{IsWellFormed};
 ghost use Rattle.search_core.specs.Raised.{BeatLast, IsRaised};
 
 use bound_shares::Shares;
-use bound_value::{Decisions, Weights};
+use bound_value::{Decisions, Weights, weigh};
 use cable_rows::RowPool;
 use candidate_cables::Arcs;
 use dual_weights::{Improved, better_of, improve};
-use row_lifts::{copied, summed_value};
+use row_lifts::copied;
 use site_model::Site;
 use std::alloc::{AllocError, Global};
 use turbine_weights::weigh_turbines;
@@ -51,7 +51,7 @@ pub(crate) fn improved_weights(
     let start = better_of(alloc, site, arcs, pool, decisions, &nearest, found)?;
     let improved = improve(alloc, site, arcs, pool, decisions, &start, turns)?;
     let Improved { weights, shares } = improved;
-    let value = summed_value(alloc, site, arcs, pool, decisions, &weights)?;
+    let value = weigh(site, arcs, pool, decisions, &weights);
     // The room of weights bounds how many there are.
     let _few = weights.as_slice();
     Ok(Worth {

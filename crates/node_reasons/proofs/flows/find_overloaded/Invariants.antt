@@ -4,4 +4,4 @@ use Rattle.node_reasons.specs.Reasons.{IsOverloaded}
 use Rattle.node_reasons.proofs.flows.find_overloaded.Given as goal
 
 abbrev pub invariant-loop-p : goal.invariant-loop-p
-invariant-loop-p l = (p : ℕ) → p < l.p → ¬ (IsOverloaded l.site p (load l.site l.cables p))
+invariant-loop-p l = (p : ℕ) → p < l.p → ¬ (IsOverloaded l.flows.site p (load l.flows.site l.flows.cables p))

@@ -4,4 +4,4 @@ use Rattle.node_reasons.specs.Reasons.{IsOverpowered}
 use Rattle.node_reasons.proofs.flows.find_overpowered.Given as goal
 
 abbrev pub invariant-loop-p : goal.invariant-loop-p
-invariant-loop-p l = (p : ℕ) → p < l.p → ¬ (IsOverpowered l.site p (load l.site l.cables p))
+invariant-loop-p l = (p : ℕ) → p < l.p → ¬ (IsOverpowered l.flows.site p (load l.flows.site l.flows.cables p))

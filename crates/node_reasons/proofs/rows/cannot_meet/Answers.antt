@@ -1,51 +1,10 @@
-use Rattle.std.proofs.Common.{◌≡◌, ◌<ℤ◌, ◌≤ℤ◌, FitsSigned, false, true, arith, refl, sym, ◌∙◌}
-use Rattle.std.specs.Int.{w64}
-use Rattle.std.proofs.lemmas.Int.{ints, to_z-of_z}
-use Rattle.node_reasons.proofs.RowExtents.{back, cannot_above, cannot_below, can_meet}
+use Rattle.std.proofs.Common.{◌≡◌, Some, slice_get, subst}
+use Rattle.std.specs.Prelude.{IsTrue, ◌↔◌}
+use Rattle.cable_definitions.specs.Row.{Row}
+use Rattle.cable_definitions.specs.Tree.{CannotMeet}
+use Rattle.node_reasons.specs.Node.{NodeParts}
 use Rattle.node_reasons.proofs.rows.cannot_meet.Goals as goal
 
-pub returns-then-left-right : goal.returns-then-left-right
-returns-then-left-right c = λ r e.
-    let fits : FitsSigned w64 c.right-right.result = omega (arith, ints) in
-    let right_is = to_z-of_z w64 c.right-right.result fits in
-    let left_is = back c.extent_of_row-left.result.greatest c.extent_of_row-left.ensures.greatest_small in
-    let less : c.extent_of_row-left.result.greatest <ℤ c.right-right.result = omega (arith, ints, right_is, left_is) in (
-      λ t. cannot_above c.args.site.now c.args.arcs.now c.args.decisions.now r c.extent_of_row-left.result.greatest c.right-right.result (c.extent_of_row-left.ensures.greatest r e) (c.right-right.ensures.value r e) less,
-      λ k. refl,
-    )
-
-pub returns-then-not-is_equation : goal.returns-then-not-is_equation
-returns-then-not-is_equation c = λ r e.
-    let fits : FitsSigned w64 c.right-right.result = omega (arith, ints) in
-    let right_is = to_z-of_z w64 c.right-right.result fits in
-    let left_is = back c.extent_of_row-left.result.greatest c.extent_of_row-left.ensures.greatest_small in
-    let enough : c.right-right.result ≤ℤ c.extent_of_row-left.result.greatest = omega (arith, ints, right_is, left_is) in (
-      λ t. absurd (cc),
-      λ k.
-          absurd (can_meet c.args.site.now c.args.arcs.now c.args.decisions.now r c.extent_of_row-left.result.least c.extent_of_row-left.result.greatest c.right-right.result (c.extent_of_row-left.ensures.least r e)
-          (c.extent_of_row-left.ensures.greatest r e) (c.right-right.ensures.value r e) enough (λ q. let g : false ≡ true = sym c.if-not-is_equation.true ∙ c.is_equation.ensures r e ∙ q in absurd (cc)) k),
-    )
-
-pub returns-then-right-left : goal.returns-then-right-left
-returns-then-right-left c = λ r e.
-    let fits : FitsSigned w64 c.right-right.result = omega (arith, ints) in
-    let right_is = to_z-of_z w64 c.right-right.result fits in
-    let least_is = back c.extent_of_row-left.result.least c.extent_of_row-left.ensures.least_small in
-    let less : c.right-right.result <ℤ c.extent_of_row-left.result.least = omega (arith, ints, right_is, least_is) in (
-      λ t. cannot_below c.args.site.now c.args.arcs.now c.args.decisions.now r c.extent_of_row-left.result.least c.right-right.result (c.extent_of_row-left.ensures.least r e) (c.right-right.ensures.value r e) (sym (c.is_equation.ensures r e) ∙ c.if-not-is_equation.false) less,
-      λ k. refl,
-    )
-
 pub returns : goal.returns
-returns c = λ r e.
-    let fits : FitsSigned w64 c.right-right.result = omega (arith, ints) in
-    let right_is = to_z-of_z w64 c.right-right.result fits in
-    let left_is = back c.extent_of_row-left.result.greatest c.extent_of_row-left.ensures.greatest_small in
-    let least_is = back c.extent_of_row-left.result.least c.extent_of_row-left.ensures.least_small in
-    let enough : c.right-right.result ≤ℤ c.extent_of_row-left.result.greatest = omega (arith, ints, right_is, left_is) in
-    let at_most : c.extent_of_row-left.result.least ≤ℤ c.right-right.result = omega (arith, ints, right_is, least_is) in (
-      λ t. absurd (cc),
-      λ k.
-          absurd (can_meet c.args.site.now c.args.arcs.now c.args.decisions.now r c.extent_of_row-left.result.least c.extent_of_row-left.result.greatest c.right-right.result (c.extent_of_row-left.ensures.least r e)
-          (c.extent_of_row-left.ensures.greatest r e) (c.right-right.ensures.value r e) enough (λ q. at_most) k),
-    )
+returns c =
+    subst (λ (n : NodeParts). (r : Row) → slice_get c.args.pool.now c.args.row ≡ Some r → IsTrue c.cannot_be_met.result ↔ CannotMeet n.site n.arcs n.marks r) c.node.view_is c.cannot_be_met.ensures

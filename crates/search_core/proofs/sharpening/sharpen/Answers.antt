@@ -4,14 +4,14 @@ use Rattle.search_core.specs.Calls.{IsOneCall}
 use Rattle.search_core.specs.declared.worth.Worth.{Worth}
 use Rattle.search_core.proofs.Listing.{lists-then, lists-well_formed}
 use Rattle.search_core.proofs.RaisedCalls.{calls-then, called-last}
-use Rattle.search_core.proofs.RaisedChoice.{settled-at, settled-kept}
+use Rattle.search_core.proofs.RaisedChoice.{settled-at, settled-there, settled-kept}
 use Rattle.search_core.proofs.sharpening.sharpen.Goals as goal
 
 pub returns-in-Some-clause-settled : goal.returns-in-Some-clause-settled
 returns-in-Some-clause-settled g c =
     settled-at c.args.site.now c.args.arcs.now c.loop-call.pool c.args.decisions.now c.args.known c.args.parent c.loop-call.worth.value c.rounded_bound-bound.result (Some c.in-Some.choice)
     c.requires.parent c.requires.parent_small c.loop-call.invariant.raised.small c.rounded_bound-bound.ensures.bound c.rounded_bound-bound.ensures.at_least c.rounded_bound-bound.ensures.small
-    c.in-Some.ensures.settled
+    (settled-there c.args.site.now c.args.arcs.now c.loop-call.pool c.args.decisions.now c.args.node.now c.args.known _ (Some c.in-Some.choice) c.requires.node c.in-Some.ensures.settled)
 
 pub cut_again-requires-clause-well_formed : goal.cut_again-requires-clause-well_formed
 cut_again-requires-clause-well_formed g c =
@@ -34,7 +34,7 @@ returns-then-not-branch-clause-settled g c =
     (c.in_ok-cut_again.ensures.same_pool (ap Ok c.if-not-branch.true)) (ap (λ (w : Worth). w.value) (c.in_ok-cut_again.ensures.same_worth (ap Ok c.if-not-branch.true)))
     (settled-at c.args.site.now c.args.arcs.now c.loop-call.pool c.args.decisions.now c.args.known c.args.parent c.loop-call.worth.value c.rounded_bound-bound.result None c.requires.parent
     c.requires.parent_small c.loop-call.invariant.raised.small c.rounded_bound-bound.ensures.bound c.rounded_bound-bound.ensures.at_least c.rounded_bound-bound.ensures.small
-    c.in_default.ensures.settled)
+    (settled-there c.args.site.now c.args.arcs.now c.loop-call.pool c.args.decisions.now c.args.node.now c.args.known _ None c.requires.node c.in_default.ensures.settled))
 
 pub returns-then-not-branch-clause-called : goal.returns-then-not-branch-clause-called
 returns-then-not-branch-clause-called g c =

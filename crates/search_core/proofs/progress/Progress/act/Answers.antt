@@ -22,6 +22,7 @@ index_mut-requires c = (let within = slice_get_within c.args.self.now.lanes.item
 abbrev left : goal.After-act-1 → Progress
 left c = record {
   budget = c.args.self.now.budget;
+  ceiling = c.args.self.now.ceiling;
   pool = c.args.self.now.pool;
   tree = c.work.new.self;
   decisions = c.args.self.now.decisions;
@@ -36,7 +37,7 @@ left c = record {
 -- what the calls did
 acting : (c : goal.After-act-1) → IsActing c.args.site.now c.args.arcs.now c.args.self.now (left c) c.args.lane c.args.node c.args.choice.act c.requires.bound.0 (nat_abs c.args.choice.bound)
 acting c =
-    is_acting c.args.site.now c.args.arcs.now c.args.self.now (left c) c.args.lane c.args.node c.args.choice.act c.requires.bound.0 c.args.choice.bound c.remove_node.new.nodes.items c.count-count.result c.requires.held refl
+    is_acting c.args.site.now c.args.arcs.now c.args.self.now (left c) c.args.lane c.args.node c.args.choice.act c.requires.bound.0 c.args.choice.bound c.remove_node.new.nodes.items c.count-count.result c.requires.held refl refl
     c.remove_node.ensures.rest c.requires.not_negative c.requires.small c.requires.bound.1 c.requires.marks refl c.requires.bound.2 c.in-Ok.ensures.ok refl c.count-count.ensures.count c.push_children.ensures.split
     c.push_children.ensures.other (c.push_children.ensures.room ∙ c.remove_node.ensures.room) c.settle.ensures c.requires.lawful c.requires.few refl
 
