@@ -1,14 +1,5 @@
-use run_support::{DOCUMENT, FORK, OPEN, cause_of, changed, run_on};
+use run_support::{DOCUMENT, FORK, OPEN, run_on, wrong_answer, wrong_refusal};
 use std::alloc::AllocError;
-
-#[test]
-fn a_document_is_accepted(rt: HostRuntime) -> Result<(), AllocError> {
-    let check = run_on(rt.alloc(), &["check"], DOCUMENT)?;
-    assert_eq!(rt; check.status, 0);
-    assert!(rt; check.out.as_slice() == b"yes cost 50000 bound 50000\n".as_slice());
-    assert!(rt; check.note.is_empty());
-    Ok(())
-}
 
 /// What stands in the document, what is put in its place, and how the cause and the line are noted.
 const CHANGES: [(&str, &str, &str); 36] = [
@@ -62,42 +53,27 @@ const CHANGES: [(&str, &str, &str); 36] = [
 
 #[test]
 fn a_changed_document_is_refused(rt: HostRuntime) -> Result<(), AllocError> {
-    let alloc = rt.alloc();
-    for (old, new, note) in CHANGES {
-        let document = changed(alloc, DOCUMENT, old, new)?;
-        let check = run_on(alloc, &["check"], document.as_str())?;
-        assert_eq!(rt; check.status, 6, "{old} {new}");
-        assert!(rt; check.out.is_empty());
-        assert!(rt;
-            cause_of(check.note.as_slice()) == Some(note.as_bytes()),
-            "{old} {new}"
-        );
-    }
+    assert_eq!(rt; wrong_refusal(rt.alloc(), DOCUMENT, &CHANGES)?, None);
     Ok(())
 }
 
-/// What follows the last line of the document, and how the cause and the line are noted.
-const BEHIND: [(&str, &str); 3] = [
-    ("x\n", "document refused: Form at line 19\n"),
-    ("x", "document refused: Line at line 19\n"),
-    ("\n", "document refused: Form at line 19\n"),
+/// The last line of the document, what is put in its place, and how the cause and the line are noted.
+const BEHIND: [(&str, &str, &str); 3] = [
+    ("end document\n", "end document\nx\n", "Form at line 19"),
+    ("end document\n", "end document\nx", "Line at line 19"),
+    ("end document\n", "end document\n\n", "Form at line 19"),
 ];
 
 #[test]
 fn nothing_follows_a_document(rt: HostRuntime) -> Result<(), AllocError> {
-    let alloc = rt.alloc();
-    for (behind, note) in BEHIND {
-        let mut document = String::from_str(alloc, DOCUMENT)?;
-        document.push_str(behind)?;
-        let check = run_on(alloc, &["check"], document.as_str())?;
-        assert_eq!(rt; check.status, 6);
-        assert!(rt; check.note.as_slice() == note.as_bytes(), "{behind}");
-    }
+    assert_eq!(rt; wrong_refusal(rt.alloc(), DOCUMENT, &BEHIND)?, None);
     Ok(())
 }
 
-/// Further documents, their status, and what is answered or noted.
-const DOCUMENTS: [(&str, u8, &str); 5] = [
+/// Documents, their status, and what is answered or noted.
+const DOCUMENTS: [(&str, u8, &str); 7] = [
+    (DOCUMENT, 0, "yes cost 50000 bound 50000\n"),
+    (OPEN, 0, "yes bound 0\n"),
     ("", 6, "document refused: Line at line 1\n"),
     ("{\"site\":1}\n", 6, "document refused: Site at line 1\n"),
     (
@@ -120,20 +96,11 @@ const DOCUMENTS: [(&str, u8, &str); 5] = [
 
 #[test]
 fn documents_are_judged_alone(rt: HostRuntime) -> Result<(), AllocError> {
-    let alloc = rt.alloc();
-    for (document, status, text) in DOCUMENTS {
-        let check = run_on(alloc, &["check"], document)?;
-        assert_eq!(rt; check.status, status, "{document}");
-        if status == 0 {
-            assert!(rt; check.out.as_slice() == text.as_bytes(), "{document}");
-        } else {
-            assert!(rt; check.note.as_slice() == text.as_bytes(), "{document}");
-        }
-    }
+    assert_eq!(rt; wrong_answer(rt.alloc(), &["check"], &DOCUMENTS)?, None);
     Ok(())
 }
 
-/// What stands in it, what is put in its place, and how the cause and the line are noted.
+/// What stands in the document of a part, what is put in its place, and how the cause and the line are noted.
 const OPENED: [(&str, &str, &str); 12] = [
     ("stuck C", "stuck B", "Layout at line 15"),
     // C can be joined to A.
@@ -161,20 +128,7 @@ const OPENED: [(&str, &str, &str); 12] = [
 
 #[test]
 fn a_part_is_judged_alone(rt: HostRuntime) -> Result<(), AllocError> {
-    let alloc = rt.alloc();
-    let check = run_on(alloc, &["check"], OPEN)?;
-    assert_eq!(rt; check.status, 0);
-    assert!(rt; check.out.as_slice() == b"yes bound 0\n".as_slice());
-    for (old, new, note) in OPENED {
-        let document = changed(alloc, OPEN, old, new)?;
-        let check = run_on(alloc, &["check"], document.as_str())?;
-        assert_eq!(rt; check.status, 6, "{old} {new}");
-        assert!(rt; check.out.is_empty());
-        assert!(rt;
-            cause_of(check.note.as_slice()) == Some(note.as_bytes()),
-            "{old} {new}"
-        );
-    }
+    assert_eq!(rt; wrong_refusal(rt.alloc(), OPEN, &OPENED)?, None);
     Ok(())
 }
 

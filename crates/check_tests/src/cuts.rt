@@ -1,6 +1,6 @@
 //! Plans that are cut, sites that differ in a byte, and many rows.
 
-use run_support::{DOCUMENT, FIRST, Ran, cause_of, changed, ran_with, run_on};
+use run_support::{DOCUMENT, FIRST, Ran, cause_of, ran_with, run_on, wrong_refusal};
 use std::alloc::{AllocError, Global};
 
 /// Two turbines in strings mode, and a bend by which the second is joined.
@@ -53,17 +53,7 @@ const BYTES: [(&str, &str, &str); 10] = [
 
 #[test]
 fn a_document_of_another_site_is_refused(rt: HostRuntime) -> Result<(), AllocError> {
-    let alloc = rt.alloc();
-    for (old, new, note) in BYTES {
-        let document = changed(alloc, DOCUMENT, old, new)?;
-        let check = run_on(alloc, &["check"], document.as_str())?;
-        assert_eq!(rt; check.status, 6, "{old} {new}");
-        assert!(rt; check.out.is_empty());
-        assert!(rt;
-            cause_of(check.note.as_slice()) == Some(note.as_bytes()),
-            "{old} {new}"
-        );
-    }
+    assert_eq!(rt; wrong_refusal(rt.alloc(), DOCUMENT, &BYTES)?, None);
     Ok(())
 }
 

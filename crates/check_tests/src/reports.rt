@@ -1,8 +1,9 @@
-use run_support::{DOCUMENT, FIRST, OPEN, ran_with, run_on};
+use crate::weights::BOUNDED;
+use run_support::{DOCUMENT, FIRST, OPEN, ran_with, run_on, wrong_answer};
 use std::alloc::AllocError;
 
 /// The report of the plan of the first site.
-pub(crate) const FIRST_REPORT: &str =
+const FIRST_REPORT: &str =
     "mode tree\ncable A                S                 0      500      100               50000\ntype 0 cables 1 length 500 cost 50000\nsubstation S feeders 1 of 4 power 100 of 10000\noptimal 50000\n";
 
 /// A string by a bend, with two types.
@@ -52,22 +53,19 @@ fn what_is_refused_is_not_reported(rt: HostRuntime) -> Result<(), AllocError> {
     Ok(())
 }
 
-#[test]
-fn a_document_is_reported_whoever_wrote_it(rt: HostRuntime) -> Result<(), AllocError> {
-    let report = run_on(rt.alloc(), &["report"], DOCUMENT)?;
-    assert_eq!(rt; report.status, 0);
-    assert!(rt; report.out.as_slice() == FIRST_REPORT.as_bytes());
-    Ok(())
-}
-
 /// The report of a part.
 const OPEN_REPORT: &str =
     "mode tree\ncable A                S                 0     1000      200                1000\ncable B                A                 0     1415      100                1415\ntype 0 cables 2 length 2415 cost 2415\nsubstation S feeders 1 of 1 power 200 of 10000\nopen 0 stuck C\n";
 
+/// Documents that no plan wrote, their status, and their reports.
+const REPORTED: [(&str, u8, &str); 3] = [
+    (DOCUMENT, 0, FIRST_REPORT),
+    (BOUNDED, 0, FIRST_REPORT),
+    (OPEN, 0, OPEN_REPORT),
+];
+
 #[test]
-fn a_part_is_reported(rt: HostRuntime) -> Result<(), AllocError> {
-    let report = run_on(rt.alloc(), &["report"], OPEN)?;
-    assert_eq!(rt; report.status, 0);
-    assert!(rt; report.out.as_slice() == OPEN_REPORT.as_bytes());
+fn a_document_is_reported_whoever_wrote_it(rt: HostRuntime) -> Result<(), AllocError> {
+    assert_eq!(rt; wrong_answer(rt.alloc(), &["report"], &REPORTED)?, None);
     Ok(())
 }

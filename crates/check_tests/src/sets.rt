@@ -1,6 +1,6 @@
 //! Documents with a row of a set.
 
-use run_support::{Ran, cause_of, changed, ran_with, run_on};
+use run_support::{answers, ran_with, wrong_refusal};
 use std::alloc::{AllocError, Global};
 
 /// Three turbines, of which the first is nearest to the substation. Each turbine's row weighs 500 cost units, and so does the row of all three together.
@@ -52,25 +52,14 @@ const CHANGES: [(&str, &str, &str); 27] = [
 
 #[test]
 fn a_set_is_left_by_enough_cables(rt: HostRuntime) -> Result<(), AllocError> {
-    let check = run_on(rt.alloc(), &["check"], SET)?;
-    assert_eq!(rt; check.status, 0);
-    assert!(rt; check.out.as_slice() == b"yes cost 2000 bound 2000\n".as_slice());
+    let answer = "yes cost 2000 bound 2000\n";
+    assert!(rt; answers(rt.alloc(), &["check"], SET, 0, answer)?);
     Ok(())
 }
 
 #[test]
 fn changed_sets_are_refused(rt: HostRuntime) -> Result<(), AllocError> {
-    let alloc = rt.alloc();
-    for (old, new, note) in CHANGES {
-        let document = changed(alloc, SET, old, new)?;
-        let check = run_on(alloc, &["check"], document.as_str())?;
-        assert_eq!(rt; check.status, 6, "{old} {new}");
-        assert!(rt; check.out.is_empty());
-        assert!(rt;
-            cause_of(check.note.as_slice()) == Some(note.as_bytes()),
-            "{old} {new}"
-        );
-    }
+    assert_eq!(rt; wrong_refusal(rt.alloc(), SET, &CHANGES)?, None);
     Ok(())
 }
 
@@ -84,19 +73,18 @@ fn first_lines(alloc: Global, text: &str, count: usize) -> Result<String, AllocE
     Ok(lines)
 }
 
-/// Whether a check has refused a document since this line isn't a whole one.
-fn misses_line(alloc: Global, check: &Ran, line: usize) -> Result<bool, AllocError> {
+/// Whether a check of so many first lines of the set is refused since the next isn't there.
+fn misses_line(alloc: Global, count: usize) -> Result<bool, AllocError> {
+    let lines = first_lines(alloc, SET, count)?;
+    let line = count.saturating_add(1);
     let note = format!(in alloc; "document refused: Line at line {line}\n")?;
-    Ok(check.status == 6 && check.out.is_empty() && check.note.as_slice() == note.as_bytes())
+    answers(alloc, &["check"], lines.as_str(), 6, note.as_str())
 }
 
 #[test]
 fn a_document_has_all_its_lines(rt: HostRuntime) -> Result<(), AllocError> {
-    let alloc = rt.alloc();
-    for count in 0..25usize {
-        let lines = first_lines(alloc, SET, count)?;
-        let check = run_on(alloc, &["check"], lines.as_str())?;
-        assert!(rt; misses_line(alloc, &check, count + 1)?, "{count}");
+    for count in 0..25u8 {
+        assert!(rt; misses_line(rt.alloc(), usize::from(count))?, "{count}");
     }
     Ok(())
 }

@@ -1,5 +1,4 @@
-use crate::reports::FIRST_REPORT;
-use run_support::{cause_of, changed, run_on};
+use run_support::{wrong_answer, wrong_refusal};
 use std::alloc::AllocError;
 
 /// Three turbines, of which the first is nearest to the substation. Each turbine's row weighs 500 cost units.
@@ -7,7 +6,7 @@ const WEIGHED: &str =
     "site 1\nmode tree\ntype 400 1\nsubstation S 0 0 4 10000\nturbine A 0 1000 100\nturbine B -300 1400 100\nturbine C 300 1400 100\nend site\nbudget 1\nrow out 1\nrow out 2\nrow out 3\nwork 1 3\nby 0 524288000\nby 1 524288000\nby 2 524288000\nstop\nlayout 3\ncable A S 0\ncable B A 0\ncable C A 0\ngap 2000 1500\nend document\n";
 
 /// The first site with its cost as its bound, by the weight of one row.
-const BOUNDED: &str =
+pub(crate) const BOUNDED: &str =
     "site 1\nmode tree\ntype 400 100\nsubstation S 0 0 4 10000\nturbine A 300 400 100\nend site\nbudget 10\nrow out 1\nwork 1 1\nby 0 52428800000\nstop\nlayout 1\ncable A S 0\noptimal 50000\nend document\n";
 
 /// The same by a weight on what flows out of the turbine, where no cable bears more than that.
@@ -18,19 +17,17 @@ const FLOWING: &str =
 const POWERED: &str =
     "site 1\nmode tree\ntype 400 100\nsubstation S 0 0 4 100\nturbine A 300 400 100\nend site\nbudget 10\nrow out 1\nrow power 0\nwork 1 2\nby 0 52533657600\nby 1 1048576\nstop\nlayout 1\ncable A S 0\noptimal 50000\nend document\n";
 
+/// Documents, their status, and what is answered.
+const BOUNDS: [(&str, u8, &str); 4] = [
+    (WEIGHED, 0, "yes cost 2000 bound 1500\n"),
+    (BOUNDED, 0, "yes cost 50000 bound 50000\n"),
+    (FLOWING, 0, "yes cost 50000 bound 50000\n"),
+    (POWERED, 0, "yes cost 50000 bound 50000\n"),
+];
+
 #[test]
 fn bounds_by_weights(rt: HostRuntime) -> Result<(), AllocError> {
-    let alloc = rt.alloc();
-    for (document, answer) in [
-        (WEIGHED, "yes cost 2000 bound 1500\n"),
-        (BOUNDED, "yes cost 50000 bound 50000\n"),
-        (FLOWING, "yes cost 50000 bound 50000\n"),
-        (POWERED, "yes cost 50000 bound 50000\n"),
-    ] {
-        let check = run_on(alloc, &["check"], document)?;
-        assert_eq!(rt; check.status, 0, "{document}");
-        assert!(rt; check.out.as_slice() == answer.as_bytes(), "{document}");
-    }
+    assert_eq!(rt; wrong_answer(rt.alloc(), &["check"], &BOUNDS)?, None);
     Ok(())
 }
 
@@ -73,24 +70,6 @@ const CHANGES: [(&str, &str, &str); 17] = [
 
 #[test]
 fn changed_weights_are_refused(rt: HostRuntime) -> Result<(), AllocError> {
-    let alloc = rt.alloc();
-    for (old, new, note) in CHANGES {
-        let document = changed(alloc, WEIGHED, old, new)?;
-        let check = run_on(alloc, &["check"], document.as_str())?;
-        assert_eq!(rt; check.status, 6, "{old} {new}");
-        assert!(rt; check.out.is_empty());
-        assert!(rt;
-            cause_of(check.note.as_slice()) == Some(note.as_bytes()),
-            "{old} {new}"
-        );
-    }
-    Ok(())
-}
-
-#[test]
-fn a_bounded_document_is_reported(rt: HostRuntime) -> Result<(), AllocError> {
-    let report = run_on(rt.alloc(), &["report"], BOUNDED)?;
-    assert_eq!(rt; report.status, 0);
-    assert!(rt; report.out.as_slice() == FIRST_REPORT.as_bytes());
+    assert_eq!(rt; wrong_refusal(rt.alloc(), WEIGHED, &CHANGES)?, None);
     Ok(())
 }

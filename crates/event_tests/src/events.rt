@@ -72,30 +72,32 @@ fn listed_pair(pool: &RowPool, step: Step) -> bool {
     }
 }
 
-/// Has a lane take a node.
-fn take<
-    F: Fn(&Site, &Arcs, &Shares) -> Result<Option<Row>, AllocError>,
-    G: Fn(&Arcs, &Decisions, &Shares) -> Option<u32>,
->(alloc: Global, search: &mut Search<'_, F, G>, site: &Site, lane: u32) -> Result<Step, AllocError>
-    requires running { IsRunning F.Fn G.Fn search.old }
-    requires site { search.old.site ≡ site.now }
-    ensures running { IsRunning F.Fn G.Fn search.new }
-    ensures site { search.new.site ≡ site.now }
-{
-    search.step(alloc, Event::Take(lane))
+/// What a lane is told.
+enum Order {
+    Take,
+    Work,
 }
 
-/// Has a lane work its node.
-fn work<
+/// Has a lane take a node, or work the one that it holds.
+fn tell<
     F: Fn(&Site, &Arcs, &Shares) -> Result<Option<Row>, AllocError>,
     G: Fn(&Arcs, &Decisions, &Shares) -> Option<u32>,
->(alloc: Global, search: &mut Search<'_, F, G>, site: &Site, lane: u32) -> Result<Step, AllocError>
+>(
+    alloc: Global,
+    search: &mut Search<'_, F, G>,
+    site: &Site,
+    lane: u32,
+    order: Order,
+) -> Result<Step, AllocError>
     requires running { IsRunning F.Fn G.Fn search.old }
     requires site { search.old.site ≡ site.now }
     ensures running { IsRunning F.Fn G.Fn search.new }
     ensures site { search.new.site ≡ site.now }
 {
-    search.step(alloc, Event::Work(lane))
+    match order {
+        Order::Take => search.step(alloc, Event::Take(lane)),
+        Order::Work => search.step(alloc, Event::Work(lane)),
+    }
 }
 
 /// Has a layout be found, where it is legal.
@@ -124,11 +126,11 @@ fn play<
     ensures running { OnOk result (IsRunning F.Fn G.Fn search.new) }
     ensures site { OnOk result (search.new.site ≡ site.now) }
 {
-    assert_eq!(rt; take(alloc, search, site, 0)?, Step::Took(1));
-    assert_eq!(rt; take(alloc, search, site, 0)?, Step::Nothing);
-    assert_eq!(rt; work(alloc, search, site, 1)?, Step::Nothing);
-    assert_eq!(rt; take(alloc, search, site, 1)?, Step::Nothing);
-    let worked = work(alloc, search, site, 0)?;
+    assert_eq!(rt; tell(alloc, search, site, 0, Order::Take)?, Step::Took(1));
+    assert_eq!(rt; tell(alloc, search, site, 0, Order::Take)?, Step::Nothing);
+    assert_eq!(rt; tell(alloc, search, site, 1, Order::Work)?, Step::Nothing);
+    assert_eq!(rt; tell(alloc, search, site, 1, Order::Take)?, Step::Nothing);
+    let worked = tell(alloc, search, site, 0, Order::Work)?;
     assert!(rt; listed_pair(search.pool(), worked));
     let dear = layout_to(alloc, [0, 0, 0])?;
     let cheap = layout_to(alloc, [0, 1, 1])?;
@@ -149,9 +151,9 @@ fn go_on<
     ensures site { OnOk result (search.new.site ≡ site.now) }
 {
     for turn in 0..600u32 {
-        let _ = take(alloc, search, site, turn % 4)?;
-        let _ = take(alloc, search, site, (turn + 2) % 4)?;
-        let _ = work(alloc, search, site, (turn + 3) % 4)?;
+        let _ = tell(alloc, search, site, turn % 4, Order::Take)?;
+        let _ = tell(alloc, search, site, (turn + 2) % 4, Order::Take)?;
+        let _ = tell(alloc, search, site, (turn + 3) % 4, Order::Work)?;
     }
     Ok(())
 }

@@ -1,5 +1,5 @@
-use run_support::{FORK, run_on};
-use std::alloc::AllocError;
+use run_support::{FORK, answers};
+use std::alloc::{AllocError, Global};
 
 /// The square of two substations and two turbines whose straight ways are closed.
 const SQUARE: &str =
@@ -179,17 +179,24 @@ const JUDGEMENTS: [(&str, &str, u8, &str); 30] = [
 
 #[test]
 fn layouts_are_judged(rt: HostRuntime) -> Result<(), AllocError> {
-    let alloc = rt.alloc();
     for (site, lines, status, text) in JUDGEMENTS {
-        let mut input = String::from_str(alloc, site)?;
-        input.push_str(lines)?;
-        let judged = run_on(alloc, &["judge"], input.as_str())?;
-        assert_eq!(rt; judged.status, status, "{lines}");
-        if status == 0 {
-            assert!(rt; judged.out.as_slice() == text.as_bytes(), "{lines}");
-        } else {
-            assert!(rt; judged.note.as_slice() == text.as_bytes(), "{lines}");
-        }
+        assert!(rt;
+            is_judged(rt.alloc(), site, lines, status, text)?,
+            "{lines}"
+        );
     }
     Ok(())
+}
+
+/// Whether `judge` answers so to a site and the lines behind it.
+fn is_judged(
+    alloc: Global,
+    site: &str,
+    lines: &str,
+    status: u8,
+    text: &str,
+) -> Result<bool, AllocError> {
+    let mut input = String::from_str(alloc, site)?;
+    input.push_str(lines)?;
+    answers(alloc, &["judge"], input.as_str(), status, text)
 }

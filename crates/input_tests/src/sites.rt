@@ -1,4 +1,4 @@
-use run_support::{FIRST, Ran, ran_with, run_on};
+use run_support::{FIRST, Ran, answers, changed, ran_with, wrong_answer};
 use std::alloc::{AllocError, Global};
 
 /// The first site as JSON.
@@ -74,18 +74,7 @@ const SITES: [(&str, u8, &str); 17] = [
 
 #[test]
 fn sites_are_written_or_refused(rt: HostRuntime) -> Result<(), AllocError> {
-    let alloc = rt.alloc();
-    for (input, status, text) in SITES {
-        let site = run_on(alloc, &["site"], input)?;
-        assert_eq!(rt; site.status, status, "{input}");
-        let (told, silent) = if status == 0 {
-            (site.out, site.note)
-        } else {
-            (site.note, site.out)
-        };
-        assert!(rt; told.as_slice() == text.as_bytes(), "{input}");
-        assert!(rt; silent.is_empty(), "{input}");
-    }
+    assert_eq!(rt; wrong_answer(rt.alloc(), &["site"], &SITES)?, None);
     Ok(())
 }
 
@@ -97,15 +86,9 @@ fn rewritten(alloc: Global, input: &[u8]) -> Result<Ran, AllocError> {
 #[test]
 fn a_number_in_json_is_whole(rt: HostRuntime) -> Result<(), AllocError> {
     let alloc = rt.alloc();
-    let mut text = String::new(alloc);
-    if let Some((front, back)) = FIRST_JSON.split_once("300") {
-        text.push_str(front)?;
-        text.push_str("300.0")?;
-        text.push_str(back)?;
-    }
-    let site = run_on(alloc, &["site"], text.as_str())?;
-    assert_eq!(rt; site.status, 2);
-    assert!(rt; site.note.as_slice() == b"site refused: Shape at 5\n".as_slice());
+    let text = changed(alloc, FIRST_JSON, "300", "300.0")?;
+    let note = "site refused: Shape at 5\n";
+    assert!(rt; answers(alloc, &["site"], text.as_str(), 2, note)?);
     let cut = rewritten(alloc, &FIRST_JSON.as_bytes()[..40])?;
     assert_eq!(rt; cut.status, 2);
     assert!(rt; cut.note.as_slice() == b"site refused: Form at 0\n".as_slice());

@@ -1,10 +1,9 @@
 ghost use Rattle.std.specs.Prelude.{◌≡◌, ◌<◌, length};
 ghost use Rattle.cable_definitions.specs.Arcs.{AreArcs};
 
-use bound_value::{
-    Decisions, Mark, Weights, WeightsFull, ceiling, lawful, least_choice, rounded_bound, weigh,
-};
-use cable_rows::{RowKind, RowPool, row_form};
+use crate::tables::{list, listed, marked};
+use bound_value::{Decisions, Mark, Weights, ceiling, lawful, least_choice, rounded_bound, weigh};
+use cable_rows::{RowKind, RowPool};
 use candidate_cables::Arcs;
 use sample_sites::{FORK, site_of};
 use site_model::Site;
@@ -20,20 +19,6 @@ fn the_ceiling_of_a_small_site(rt: HostRuntime) -> Result<(), Fail> {
     let arcs = Arcs::new(rt.alloc(), &site)?;
     assert!(&rt; ceiling(&site, &arcs) == 3864);
     Ok(())
-}
-
-/// Lists a row that has to be well formed.
-fn list(
-    pool: &mut RowPool,
-    site: &Site,
-    arcs: &Arcs,
-    kind: RowKind,
-    members: &[u32],
-) -> Result<u32, Fail>
-    requires { AreArcs site.now arcs.now }
-{
-    row_form(site, arcs, kind, members)?;
-    Ok(pool.add(site, arcs, kind, members)?)
 }
 
 /// The value, in cost units, of weights that have to be lawful and have a whole one.
@@ -57,69 +42,84 @@ fn units_of(
     Ok(value / UNIT)
 }
 
-#[test]
-fn used_arcs_are_weighed(rt: HostRuntime) -> Result<(), Fail> {
-    let site = site_of(rt.alloc(), FORK)?;
-    let arcs = Arcs::new(rt.alloc(), &site)?;
-    let pool = RowPool::new(rt.alloc())?;
-    let weights = Weights::new(rt.alloc())?;
-    let mut decisions = Decisions::new(rt.alloc(), arcs.len())?;
-    assert_eq!(rt; units_of(&site, &arcs, &pool, &decisions, &weights)?, 0);
-    assert!(&rt; arcs.len() == 9);
-    decisions.set(0, Mark::Used);
-    decisions.set(4, Mark::Used);
-    decisions.set(7, Mark::Used);
-    decisions.set(3, Mark::Unused);
-    assert_eq!(rt; units_of(&site, &arcs, &pool, &decisions, &weights)?, 2000);
-    Ok(())
-}
-
-#[test]
-fn weights_on_turbines_and_a_cut(rt: HostRuntime) -> Result<(), Fail> {
-    let site = site_of(rt.alloc(), FORK)?;
-    let arcs = Arcs::new(rt.alloc(), &site)?;
-    let mut pool = RowPool::new(rt.alloc())?;
-    let mut weights = Weights::new(rt.alloc())?;
-    let mut decisions = Decisions::new(rt.alloc(), arcs.len())?;
-    for turbine in 1..4u32 {
-        weights.push(
-            list(&mut pool, &site, &arcs, RowKind::Out, &[turbine])?,
-            500 * UNIT,
-        )?;
+/// Lists rows, each with its weight.
+fn list_weighed(
+    pool: &mut RowPool,
+    weights: &mut Weights,
+    site: &Site,
+    arcs: &Arcs,
+    rows: &[(RowKind, &[u32], i128)],
+) -> Result<(), Fail>
+    requires { AreArcs site.now arcs.now }
+{
+    for row in rows {
+        weights.push(list(pool, site, arcs, row.0, row.1)?, row.2)?;
     }
-    // Each turbine's arcs to the others leave at least nothing, so only the right sides are left.
-    assert_eq!(rt; units_of(&site, &arcs, &pool, &decisions, &weights)?, 1500);
-    weights.push(
-        list(&mut pool, &site, &arcs, RowKind::Cut, &[1, 2, 3])?,
-        500 * UNIT,
-    )?;
-    assert_eq!(rt; units_of(&site, &arcs, &pool, &decisions, &weights)?, 2000);
-    assert!(&rt; arcs.len() == 9);
-    // The arc from B to the substation leaves 1432 - 500 - 500.
-    decisions.set(0, Mark::Unused);
-    decisions.set(3, Mark::Used);
-    assert_eq!(rt; units_of(&site, &arcs, &pool, &decisions, &weights)?, 2432);
     Ok(())
 }
 
-#[test]
-fn a_weight_on_a_flow(rt: HostRuntime) -> Result<(), Fail> {
-    let site = site_of(rt.alloc(), FORK)?;
-    let arcs = Arcs::new(rt.alloc(), &site)?;
-    let mut pool = RowPool::new(rt.alloc())?;
-    let mut weights = Weights::new(rt.alloc())?;
-    let mut decisions = Decisions::new(rt.alloc(), arcs.len())?;
-    weights.push(
-        list(&mut pool, &site, &arcs, RowKind::Flow, &[1])?,
-        2 * UNIT,
-    )?;
+/// The value, in cost units, of a fork with these rows and their weights, and these marks.
+fn value_of(
+    alloc: Global,
+    rows: &[(RowKind, &[u32], i128)],
+    marks: &[(u32, Mark)],
+) -> Result<i128, Fail> {
+    let site = site_of(alloc, FORK)?;
+    let arcs = Arcs::new(alloc, &site)?;
+    let mut pool = RowPool::new(alloc)?;
+    let mut weights = Weights::new(alloc)?;
+    list_weighed(&mut pool, &mut weights, &site, &arcs, rows)?;
+    let decisions = marked(alloc, &arcs, marks)?;
+    units_of(&site, &arcs, &pool, &decisions, &weights)
+}
+
+/// Half a thousand cost units on the cables out of each turbine.
+const OUT: [(RowKind, &[u32], i128); 3] = [
+    (RowKind::Out, &[1], 500 * UNIT),
+    (RowKind::Out, &[2], 500 * UNIT),
+    (RowKind::Out, &[3], 500 * UNIT),
+];
+
+/// The same, and as much on the cables out of all three.
+const OUT_AND_CUT: [(RowKind, &[u32], i128); 4] = [
+    (RowKind::Out, &[1], 500 * UNIT),
+    (RowKind::Out, &[2], 500 * UNIT),
+    (RowKind::Out, &[3], 500 * UNIT),
+    (RowKind::Cut, &[1, 2, 3], 500 * UNIT),
+];
+
+/// Two cost units a unit of the flow through A.
+const FLOW: [(RowKind, &[u32], i128); 1] = [(RowKind::Flow, &[1], 2 * UNIT)];
+
+/// Rows with weights, marks, and the value in cost units.
+const VALUES: [(&[(RowKind, &[u32], i128)], &[(u32, Mark)], i128); 7] = [
+    (&[], &[], 0),
+    (
+        &[],
+        &[
+            (0, Mark::Used),
+            (4, Mark::Used),
+            (7, Mark::Used),
+            (3, Mark::Unused),
+        ],
+        2000,
+    ),
+    // Each turbine's arcs to the others leave at least nothing, so only the right sides are left.
+    (&OUT, &[], 1500),
+    (&OUT_AND_CUT, &[], 2000),
+    // The arc from B to the substation leaves 1432 - 500 - 500.
+    (&OUT_AND_CUT, &[(0, Mark::Unused), (3, Mark::Used)], 2432),
     // The right side is 2 * 100, and the arcs from A to B and to C leave 500 - 2 * 400 at the capacity.
-    assert_eq!(rt; units_of(&site, &arcs, &pool, &decisions, &weights)?, -400);
-    assert!(&rt; arcs.len() == 9);
+    (&FLOW, &[], -400),
     // The arc from B to A leaves 500 + 2 * 100 at B's power.
-    decisions.set(4, Mark::Used);
-    decisions.set(1, Mark::Unused);
-    assert_eq!(rt; units_of(&site, &arcs, &pool, &decisions, &weights)?, 600);
+    (&FLOW, &[(4, Mark::Used), (1, Mark::Unused)], 600),
+];
+
+#[test]
+fn weights_and_marks_have_a_value(rt: HostRuntime) -> Result<(), Fail> {
+    for (rows, marks, value) in VALUES {
+        assert_eq!(rt; value_of(rt.alloc(), rows, marks)?, value);
+    }
     Ok(())
 }
 
@@ -172,44 +172,39 @@ fn the_least_choices_of_an_arc(rt: HostRuntime) -> Result<(), Fail> {
 /// 2^76.
 const MOST: i128 = 75_557_863_725_914_323_419_136;
 
-/// Whether two weights are lawful.
-fn are_lawful(
-    pool: &RowPool,
-    weights: &mut Weights,
-    first: (u32, i128),
-    second: (u32, i128),
-) -> Result<bool, WeightsFull> {
-    weights.clear();
-    weights.push(first.0, first.1)?;
-    weights.push(second.0, second.1)?;
-    Ok(lawful(pool, weights))
+/// Whether these weights are lawful on two rows, of which the first is an equation.
+fn are_lawful(alloc: Global, pairs: &[(u32, i128)]) -> Result<bool, Fail> {
+    let site = site_of(alloc, ONE_ARC)?;
+    let arcs = Arcs::new(alloc, &site)?;
+    let rows: [(RowKind, &[u32]); 2] = [(RowKind::Out, &[1]), (RowKind::Cut, &[1])];
+    let pool = listed(alloc, &site, &arcs, &rows)?;
+    let mut weights = Weights::new(alloc)?;
+    for pair in pairs {
+        weights.push(pair.0, pair.1)?;
+    }
+    Ok(lawful(&pool, &weights))
 }
+
+/// Weights, each with the number of its row, and whether they are lawful.
+const LAWFUL: [(&[(u32, i128)], bool); 12] = [
+    (&[], true),
+    (&[(0, 5), (1, 3)], true),
+    (&[(0, -5), (1, 3)], true),
+    (&[(0, MOST), (1, MOST)], true),
+    (&[(0, -MOST), (1, 3)], true),
+    (&[(1, 3), (0, 5)], false),
+    (&[(1, 3), (1, 3)], false),
+    (&[(0, 5), (2, 3)], false),
+    (&[(0, 0), (1, 3)], false),
+    (&[(0, 5), (1, -3)], false),
+    (&[(0, 5), (1, MOST + 1)], false),
+    (&[(0, -MOST - 1), (1, 3)], false),
+];
 
 #[test]
 fn lawful_weights(rt: HostRuntime) -> Result<(), Fail> {
-    let site = site_of(rt.alloc(), ONE_ARC)?;
-    let arcs = Arcs::new(rt.alloc(), &site)?;
-    let mut pool = RowPool::new(rt.alloc())?;
-    row_form(&site, &arcs, RowKind::Out, &[1])?;
-    pool.add(&site, &arcs, RowKind::Out, &[1])?;
-    row_form(&site, &arcs, RowKind::Cut, &[1])?;
-    pool.add(&site, &arcs, RowKind::Cut, &[1])?;
-    let mut weights = Weights::new(rt.alloc())?;
-    assert!(&rt; lawful(&pool, &weights));
-    for (first, second, want) in [
-        ((0, 5), (1, 3), true),
-        ((0, -5), (1, 3), true),
-        ((0, MOST), (1, MOST), true),
-        ((0, -MOST), (1, 3), true),
-        ((1, 3), (0, 5), false),
-        ((1, 3), (1, 3), false),
-        ((0, 5), (2, 3), false),
-        ((0, 0), (1, 3), false),
-        ((0, 5), (1, -3), false),
-        ((0, 5), (1, MOST + 1), false),
-        ((0, -MOST - 1), (1, 3), false),
-    ] {
-        assert!(&rt; are_lawful(&pool, &mut weights, first, second)? == want);
+    for (pairs, want) in LAWFUL {
+        assert_eq!(rt; are_lawful(rt.alloc(), pairs)?, want);
     }
     Ok(())
 }

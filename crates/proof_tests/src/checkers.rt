@@ -67,45 +67,210 @@ fn refused(line: u64, cause: Cause) -> Result<Bound, Refusal> {
     Err(Refusal { line, cause })
 }
 
-#[test]
-fn claims_of_one_turbine(rt: HostRuntime) -> Result<(), Fail> {
-    let alloc = rt.alloc();
-    let site = site_of(alloc, FIRST)?;
-    let answer = check(alloc, &site, 3, 1, &WORKS, &[CABLE], Claim::Optimal(50000))?;
-    assert_eq!(rt; answer, Ok(Bound::Least(50000)));
-    let answer = check(alloc, &site, 3, 1, &WORKS, &[CABLE], Claim::Optimal(50001))?;
-    assert_eq!(rt; answer, refused(5, Cause::Layout));
-    let answer = check(alloc, &site, 3, 1, &WORKS, &[CABLE], Claim::Infeasible)?;
-    assert_eq!(rt; answer, refused(5, Cause::Layout));
-    let answer = check(alloc, &site, 3, 1, &WORKS, &[], Claim::Infeasible)?;
-    assert_eq!(rt; answer, refused(5, Cause::Verdict));
-    let answer = check(
-        alloc,
-        &site,
-        3,
-        1,
-        &WORKS[..2],
-        &[CABLE],
-        Claim::Optimal(50000),
-    )?;
-    assert_eq!(rt; answer, refused(4, Cause::Verdict));
-    Ok(())
-}
+/// What an accepted document of one turbine says.
+const LEAST: Result<Bound, Refusal> = Ok(Bound::Least(50000));
+
+/// A work that stops at once.
+const STOP: [(u32, Act); 1] = [(1, Act::Stop)];
+
+/// The budget, the point of the row, the works, the cables and the claim of a document.
+type Parts = (u32, u32, &'static [(u32, Act)], &'static [Cable], Claim);
+
+/// Documents of one turbine, and what is answered.
+const DOCUMENTS: [(Parts, Result<Bound, Refusal>); 17] = [
+    ((3, 1, &WORKS, &[CABLE], Claim::Optimal(50000)), LEAST),
+    (
+        (3, 1, &WORKS, &[CABLE], Claim::Optimal(50001)),
+        Err(Refusal {
+            line: 5,
+            cause: Cause::Layout,
+        }),
+    ),
+    (
+        (3, 1, &WORKS, &[CABLE], Claim::Infeasible),
+        Err(Refusal {
+            line: 5,
+            cause: Cause::Layout,
+        }),
+    ),
+    (
+        (3, 1, &WORKS, &[], Claim::Infeasible),
+        Err(Refusal {
+            line: 5,
+            cause: Cause::Verdict,
+        }),
+    ),
+    (
+        (
+            3,
+            1,
+            &[(1, Act::Split(0)), (2, Act::Full)],
+            &[CABLE],
+            Claim::Optimal(50000),
+        ),
+        Err(Refusal {
+            line: 4,
+            cause: Cause::Verdict,
+        }),
+    ),
+    (
+        (
+            1,
+            1,
+            &STOP,
+            &[CABLE],
+            Claim::Gap {
+                cost: 50000,
+                bound: 0,
+            },
+        ),
+        Ok(Bound::Least(0)),
+    ),
+    (
+        (
+            2,
+            1,
+            &STOP,
+            &[CABLE],
+            Claim::Gap {
+                cost: 50000,
+                bound: 0,
+            },
+        ),
+        Err(Refusal {
+            line: 3,
+            cause: Cause::Verdict,
+        }),
+    ),
+    (
+        (
+            1,
+            1,
+            &STOP,
+            &[CABLE],
+            Claim::Gap {
+                cost: 50000,
+                bound: 1,
+            },
+        ),
+        Err(Refusal {
+            line: 3,
+            cause: Cause::Verdict,
+        }),
+    ),
+    (
+        (
+            3,
+            1,
+            &WORKS,
+            &[CABLE],
+            Claim::Gap {
+                cost: 50000,
+                bound: 50000,
+            },
+        ),
+        Err(Refusal {
+            line: 5,
+            cause: Cause::Verdict,
+        }),
+    ),
+    (
+        (3, 0, &WORKS, &[CABLE], Claim::Optimal(50000)),
+        Err(Refusal {
+            line: 1,
+            cause: Cause::Row,
+        }),
+    ),
+    (
+        (2, 1, &WORKS, &[CABLE], Claim::Optimal(50000)),
+        Err(Refusal {
+            line: 4,
+            cause: Cause::Limit,
+        }),
+    ),
+    (
+        (
+            3,
+            1,
+            &[(1, Act::Split(0)), (4, Act::Full)],
+            &[CABLE],
+            Claim::Optimal(50000),
+        ),
+        Err(Refusal {
+            line: 3,
+            cause: Cause::Node,
+        }),
+    ),
+    (
+        (
+            3,
+            1,
+            &[(1, Act::Split(0)), (2, Act::Full), (2, Act::Full)],
+            &[CABLE],
+            Claim::Optimal(50000),
+        ),
+        Err(Refusal {
+            line: 4,
+            cause: Cause::Node,
+        }),
+    ),
+    (
+        (3, 1, &[(1, Act::Split(1))], &[CABLE], Claim::Optimal(50000)),
+        Err(Refusal {
+            line: 2,
+            cause: Cause::Arc,
+        }),
+    ),
+    (
+        (
+            3,
+            1,
+            &[(1, Act::Split(0)), (2, Act::Split(0))],
+            &[CABLE],
+            Claim::Optimal(50000),
+        ),
+        Err(Refusal {
+            line: 3,
+            cause: Cause::Arc,
+        }),
+    ),
+    (
+        (
+            3,
+            1,
+            &[(1, Act::Split(0)), (2, Act::Dead(Why::Row(0)))],
+            &[CABLE],
+            Claim::Optimal(50000),
+        ),
+        Err(Refusal {
+            line: 3,
+            cause: Cause::Dead,
+        }),
+    ),
+    (
+        (
+            3,
+            1,
+            &[(1, Act::Split(0)), (3, Act::Full)],
+            &[CABLE],
+            Claim::Optimal(50000),
+        ),
+        Err(Refusal {
+            line: 3,
+            cause: Cause::Full,
+        }),
+    ),
+];
 
 #[test]
-fn gaps_of_one_turbine(rt: HostRuntime) -> Result<(), Fail> {
+fn documents_of_one_turbine(rt: HostRuntime) -> Result<(), Fail> {
     let alloc = rt.alloc();
     let site = site_of(alloc, FIRST)?;
-    let stop = [(1, Act::Stop)];
-    let gap = |cost, bound| Claim::Gap { cost, bound };
-    let answer = check(alloc, &site, 1, 1, &stop, &[CABLE], gap(50000, 0))?;
-    assert_eq!(rt; answer, Ok(Bound::Least(0)));
-    let answer = check(alloc, &site, 2, 1, &stop, &[CABLE], gap(50000, 0))?;
-    assert_eq!(rt; answer, refused(3, Cause::Verdict));
-    let answer = check(alloc, &site, 1, 1, &stop, &[CABLE], gap(50000, 1))?;
-    assert_eq!(rt; answer, refused(3, Cause::Verdict));
-    let answer = check(alloc, &site, 3, 1, &WORKS, &[CABLE], gap(50000, 50000))?;
-    assert_eq!(rt; answer, refused(5, Cause::Verdict));
+    for ((budget, row, works, cables, claim), want) in DOCUMENTS {
+        assert!(&rt; 1 <= budget && budget <= 50000);
+        let answer = check(alloc, &site, budget, row, works, cables, claim)?;
+        assert_eq!(rt; answer, want);
+    }
     Ok(())
 }
 
@@ -132,63 +297,6 @@ fn a_turbine_that_cannot_be_joined(rt: HostRuntime) -> Result<(), Fail> {
             answer
         );
     }
-    Ok(())
-}
-
-#[test]
-fn wrong_items_of_one_turbine(rt: HostRuntime) -> Result<(), Fail> {
-    let alloc = rt.alloc();
-    let site = site_of(alloc, FIRST)?;
-    let claim = Claim::Optimal(50000);
-    let answer = check(alloc, &site, 3, 0, &WORKS, &[CABLE], claim)?;
-    assert_eq!(rt; answer, refused(1, Cause::Row));
-    let answer = check(alloc, &site, 2, 1, &WORKS, &[CABLE], claim)?;
-    assert_eq!(rt; answer, refused(4, Cause::Limit));
-    let answer = check(
-        alloc,
-        &site,
-        3,
-        1,
-        &[WORKS[0], (4, Act::Full)],
-        &[CABLE],
-        claim,
-    )?;
-    assert_eq!(rt; answer, refused(3, Cause::Node));
-    let answer = check(
-        alloc,
-        &site,
-        3,
-        1,
-        &[WORKS[0], WORKS[1], WORKS[1]],
-        &[CABLE],
-        claim,
-    )?;
-    assert_eq!(rt; answer, refused(4, Cause::Node));
-    let answer = check(alloc, &site, 3, 1, &[(1, Act::Split(1))], &[CABLE], claim)?;
-    assert_eq!(rt; answer, refused(2, Cause::Arc));
-    let answer = check(
-        alloc,
-        &site,
-        3,
-        1,
-        &[WORKS[0], (2, Act::Split(0))],
-        &[CABLE],
-        claim,
-    )?;
-    assert_eq!(rt; answer, refused(3, Cause::Arc));
-    let dead = Act::Dead(Why::Row(0));
-    let answer = check(alloc, &site, 3, 1, &[WORKS[0], (2, dead)], &[CABLE], claim)?;
-    assert_eq!(rt; answer, refused(3, Cause::Dead));
-    let answer = check(
-        alloc,
-        &site,
-        3,
-        1,
-        &[WORKS[0], (3, Act::Full)],
-        &[CABLE],
-        claim,
-    )?;
-    assert_eq!(rt; answer, refused(3, Cause::Full));
     Ok(())
 }
 

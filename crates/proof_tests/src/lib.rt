@@ -14,6 +14,8 @@ mod reasons;
 #[cfg(test)]
 mod rows;
 #[cfg(test)]
+mod tables;
+#[cfg(test)]
 mod trees;
 #[cfg(test)]
 mod written_items;

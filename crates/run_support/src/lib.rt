@@ -92,3 +92,72 @@ pub fn cause_of(note: &[u8]) -> Option<&[u8]> {
         None => None,
     }
 }
+
+/// Whether a command ends with this status on an input, with this text written, or noted where the status isn't 0, and nothing on the other stream.
+///
+/// # Errors
+///
+/// Want of memory.
+pub fn answers(
+    alloc: Global,
+    words: &[&str],
+    input: &str,
+    status: u8,
+    text: &str,
+) -> Result<bool, AllocError> {
+    let ran = run_on(alloc, words, input)?;
+    Ok(ran.status == status && tells(&ran, text.as_bytes()))
+}
+
+/// Whether a run has written the text, or noted it where its status isn't 0, and nothing on the other stream.
+fn tells(ran: &Ran, text: &[u8]) -> bool {
+    if ran.status == 0 {
+        return ran.out.as_slice() == text && ran.note.is_empty();
+    }
+    ran.note.as_slice() == text && ran.out.is_empty()
+}
+
+/// The number of the first row of inputs, statuses and texts that a command doesn't answer so.
+///
+/// # Errors
+///
+/// Want of memory.
+pub fn wrong_answer(
+    alloc: Global,
+    words: &[&str],
+    rows: &[(&str, u8, &str)],
+) -> Result<Option<usize>, AllocError> {
+    for (number, row) in rows.iter().enumerate() {
+        if !answers(alloc, words, row.0, row.1, row.2)? {
+            return Ok(Some(number));
+        }
+    }
+    Ok(None)
+}
+
+/// Whether `check` refuses a document with this cause and line.
+fn is_refused(alloc: Global, document: &str, cause: &str) -> Result<bool, AllocError> {
+    let ran = run_on(alloc, &["check"], document)?;
+    let is_cause = cause_of(ran.note.as_slice()) == Some(cause.as_bytes());
+    Ok(ran.status == 6 && ran.out.is_empty() && is_cause)
+}
+
+/// The number of the first row of changes, what stands in a document and what is put in its place, with which `check` doesn't refuse it with
+/// the row's cause and line.
+///
+/// # Errors
+///
+/// Want of memory.
+pub fn wrong_refusal(
+    alloc: Global,
+    document: &str,
+    rows: &[(&str, &str, &str)],
+) -> Result<Option<usize>, AllocError> {
+    for (number, row) in rows.iter().enumerate() {
+        let text = changed(alloc, document, row.0, row.1)?;
+        if !is_refused(alloc, text.as_str(), row.2)? {
+            return Ok(Some(number));
+        }
+    }
+    Ok(None)
+}

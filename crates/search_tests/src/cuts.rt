@@ -7,7 +7,7 @@ use crossing_index::Crossings;
 use cut_makers::connect_row;
 use row_makers::{capacity_row, crossing_row};
 use sample_sites::site_of;
-use site_model::{Mode, RawKind, Site, SiteBuilder, Version};
+use site_model::Site;
 use std::alloc::Global;
 use std::test::Fail;
 
@@ -18,15 +18,14 @@ const HALF: u32 = 524_288;
 
 const QUARTER: u32 = 262_144;
 
-/// A substation and three turbines of power 100, at this capacity of the cables.
-fn small_site(alloc: Global, capacity: i128) -> Result<Site, Fail> {
-    let mut builder = SiteBuilder::new(alloc, Version::One, Mode::Tree)?;
-    builder.add_type(capacity, 1, None)?;
-    builder.add_point(b"S", 0, 0, RawKind::Substation(4, 10000))?;
-    builder.add_point(b"A", 0, 1000, RawKind::Turbine(100))?;
-    builder.add_point(b"B", 300, 1400, RawKind::Turbine(100))?;
-    builder.add_point(b"C", 700, 1300, RawKind::Turbine(100))?;
-    Ok(builder.build()?)
+/// The points of a substation and three turbines of power 100.
+const POINTS: &str =
+    "substation S 0 0 4 10000\nturbine A 0 1000 100\nturbine B 300 1400 100\nturbine C 700 1300 100\nend site\n";
+
+/// The site of these points, at this capacity of the cables.
+fn small_site(alloc: Global, capacity: u32) -> Result<Site, Fail> {
+    let lines = format!(in alloc; "site 1\nmode tree\ntype {capacity} 1\n{POINTS}")?;
+    site_of(alloc, lines.as_str())
 }
 
 /// A substation and three turbines in the corners of a square: the arcs between 0 and 2 clash with those between 1 and 3.

@@ -3,12 +3,12 @@ use intree_floor::{Floor, SetList, floor, has_no_bends};
 use sample_sites::{FORK, site_of};
 use std::test::Fail;
 
-/// Two turbines side by side, far from the substation.
-const SIDE_BY_SIDE: &str =
+/// Two turbines side by side, far from the substation. The free arcs with their lengths are 0 A>S 1000, 1 A>B 100, 2 B>S 1005 and 3 B>A 100.
+pub(crate) const SIDE_BY_SIDE: &str =
     "site 1\nmode tree\ntype 400 1\nsubstation S 0 0 4 10000\nturbine A 0 1000 100\nturbine B 100 1000 100\nend site\n";
 
 /// The same, with the ways to the substation closed.
-const CUT_OFF: &str =
+pub(crate) const CUT_OFF: &str =
     "site 1\nmode tree\ntype 400 1\nsubstation S 0 0 4 10000\nturbine A 0 1000 100\nturbine B 100 1000 100\nclosed A S\nclosed B S\nend site\n";
 
 /// The sum of the weights.

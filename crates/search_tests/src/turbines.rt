@@ -6,7 +6,8 @@ use bound_value::{Decisions, Mark, Weights};
 use cable_definitions::row::RowKind;
 use cable_rows::{RowPool, row_form};
 use candidate_cables::Arcs;
-use site_model::{Mode, RawKind, Site, SiteBuilder, Version};
+use sample_sites::{FORK, site_of};
+use site_model::Site;
 use std::alloc::Global;
 use std::test::Fail;
 use turbine_weights::weigh_turbines;
@@ -14,17 +15,9 @@ use turbine_weights::weigh_turbines;
 /// What a cost of one unit weighs.
 const UNIT: i128 = 1_048_576;
 
-/// A substation and three turbines, at this price of a metre of cable. The arcs with their lengths are 0 A>S 1000, 1 A>B 500, 2 A>C 500, 3 B>S
-/// 1432, 4 B>A 500, 5 B>C 600, 6 C>S 1432, 7 C>A 500 and 8 C>B 600.
-fn small_site(alloc: Global, price: i128) -> Result<Site, Fail> {
-    let mut builder = SiteBuilder::new(alloc, Version::One, Mode::Tree)?;
-    builder.add_type(400, price, None)?;
-    builder.add_point(b"S", 0, 0, RawKind::Substation(4, 10000))?;
-    builder.add_point(b"A", 0, 1000, RawKind::Turbine(100))?;
-    builder.add_point(b"B", -300, 1400, RawKind::Turbine(100))?;
-    builder.add_point(b"C", 300, 1400, RawKind::Turbine(100))?;
-    Ok(builder.build()?)
-}
+/// The fork, where cables cost nothing.
+const FREE: &str =
+    "site 1\nmode tree\ntype 400 0\nsubstation S 0 0 4 10000\nturbine A 0 1000 100\nturbine B -300 1400 100\nturbine C 300 1400 100\nend site\n";
 
 /// Lists a row that has to be well formed among such rows.
 fn list(
@@ -61,7 +54,7 @@ fn rows(alloc: Global, site: &Site, arcs: &Arcs) -> Result<RowPool, Fail>
 
 #[test]
 fn all_arcs_free(rt: HostRuntime) -> Result<(), Fail> {
-    let site = small_site(rt.alloc(), 1)?;
+    let site = site_of(rt.alloc(), FORK)?;
     let arcs = Arcs::new(rt.alloc(), &site)?;
     let pool = rows(rt.alloc(), &site, &arcs)?;
     let decisions = Decisions::new(rt.alloc(), arcs.len())?;
@@ -78,7 +71,7 @@ fn all_arcs_free(rt: HostRuntime) -> Result<(), Fail> {
 
 #[test]
 fn unused_arcs_are_left_out(rt: HostRuntime) -> Result<(), Fail> {
-    let site = small_site(rt.alloc(), 1)?;
+    let site = site_of(rt.alloc(), FORK)?;
     let arcs = Arcs::new(rt.alloc(), &site)?;
     let pool = rows(rt.alloc(), &site, &arcs)?;
     let mut decisions = Decisions::new(rt.alloc(), arcs.len())?;
@@ -100,7 +93,7 @@ fn unused_arcs_are_left_out(rt: HostRuntime) -> Result<(), Fail> {
 
 #[test]
 fn arcs_that_cost_nothing(rt: HostRuntime) -> Result<(), Fail> {
-    let site = small_site(rt.alloc(), 0)?;
+    let site = site_of(rt.alloc(), FREE)?;
     let arcs = Arcs::new(rt.alloc(), &site)?;
     let pool = rows(rt.alloc(), &site, &arcs)?;
     let decisions = Decisions::new(rt.alloc(), arcs.len())?;

@@ -5,23 +5,27 @@ use cable_definitions::row::RowKind;
 use cable_rows::{RowPool, row_form};
 use candidate_cables::Arcs;
 use dual_weights::improve;
-use site_model::{Mode, RawKind, Site, SiteBuilder, Version};
+use sample_sites::site_of;
+use site_model::Site;
 use std::alloc::Global;
 use std::test::Fail;
 
 /// What a cost of one unit weighs.
 const UNIT: i128 = 1_048_576;
 
+/// The turbines of a fork.
+const TURBINES: &str = "turbine A 0 1000 100\nturbine B -300 1400 100\nturbine C 300 1400 100\n";
+
 /// A substation of this power and three turbines, and a charge on the pair of the substation and the first of them.
-fn fork_site(alloc: Global, price: i128, power: i128, charge: i128) -> Result<Site, Fail> {
-    let mut builder = SiteBuilder::new(alloc, Version::One, Mode::Tree)?;
-    builder.add_type(400, price, None)?;
-    builder.add_point(b"S", 0, 0, RawKind::Substation(4, power))?;
-    builder.add_point(b"A", 0, 1000, RawKind::Turbine(100))?;
-    builder.add_point(b"B", -300, 1400, RawKind::Turbine(100))?;
-    builder.add_point(b"C", 300, 1400, RawKind::Turbine(100))?;
-    builder.add_pair(b"S", b"A", Some(charge))?;
-    Ok(builder.build()?)
+fn fork_site(alloc: Global, price: u64, power: u64, charge: u64) -> Result<Site, Fail> {
+    let front = format!(in alloc;
+        "site 1\nmode tree\ntype 400 {price}\nsubstation S 0 0 4 {power}\n"
+    )?;
+    let lines = format!(in alloc;
+        "{}{TURBINES}charge S A {charge}\nend site\n",
+        front.as_str()
+    )?;
+    site_of(alloc, lines.as_str())
 }
 
 /// Lists the rows of a kind on the three turbines.

@@ -12,25 +12,47 @@ const SQUARE: &str =
 const TWO_TYPES: &str =
     "site 1\nmode tree\ntype 200 3\ntype 100 2\nsubstation S 0 0 1 10000\nturbine A 0 1000 100\nturbine B 1000 0 100\nend site\n";
 
+/// The cables that join the first two turbines.
+const JOINED: [Cable; 2] = [
+    Cable {
+        from: 1,
+        to: 0,
+        grade: 0,
+    },
+    Cable {
+        from: 2,
+        to: 1,
+        grade: 0,
+    },
+];
+
+/// Joins the first two turbines, and tells which are blocked or joined before, between and after.
+fn joins(part: &mut PartialLayout) -> [bool; 10] {
+    [
+        part.blocked(3),
+        part.try_join(1, 0).is_ok(),
+        part.joined(1),
+        part.joined(0),
+        part.blocked(3),
+        part.try_join(2, 1).is_ok(),
+        part.blocked(3),
+        part.blocked(2),
+        part.blocked(0),
+        part.blocked(5),
+    ]
+}
+
 #[test]
 fn joins_turbines_until_one_is_blocked(rt: HostRuntime) -> Result<(), Fail> {
     let alloc = rt.alloc();
     let site = site_of(alloc, SQUARE)?;
     let mut part = PartialLayout::new(alloc, &site)?;
-    assert!(&rt; !part.blocked(3));
-    assert_eq!(rt; part.try_join(1, 0), Ok(()));
-    assert!(&rt; part.joined(1));
-    assert!(&rt; !part.joined(0));
-    assert!(&rt; !part.blocked(3));
-    assert_eq!(rt; part.try_join(2, 1), Ok(()));
-    assert!(&rt; part.blocked(3));
-    assert!(&rt; !part.blocked(2));
-    assert!(&rt; !part.blocked(0));
-    assert!(&rt; !part.blocked(5));
-    let cable = |from, to| Cable { from, to, grade: 0 };
-    let cables = [cable(1, 0), cable(2, 1)];
-    assert_eq!(rt; part.layout().cables(), cables.as_slice());
-    assert_eq!(rt; part.into_layout().cables(), cables.as_slice());
+    let want = [
+        false, true, true, false, false, true, true, false, false, false,
+    ];
+    assert_eq!(rt; joins(&mut part), want);
+    assert!(&rt; part.layout().cables() == JOINED.as_slice());
+    assert!(&rt; part.into_layout().cables() == JOINED.as_slice());
     Ok(())
 }
 
@@ -54,18 +76,13 @@ fn refuses_arcs(rt: HostRuntime) -> Result<(), Fail> {
         assert_eq!(rt; part.try_join(from, to), Err(fault));
     }
     assert_eq!(rt; part.try_join(2, 1), Ok(()));
-    assert_eq!(rt;
-        part.try_join(3, 0),
-        Err(JoinFault::Breaks(Rule::Feeders, 0, 0))
-    );
-    assert_eq!(rt;
-        part.try_join(3, 1),
-        Err(JoinFault::Breaks(Rule::Overload, 1, 0))
-    );
-    assert_eq!(rt;
-        part.try_join(3, 2),
-        Err(JoinFault::Breaks(Rule::Overload, 1, 0))
-    );
+    for (to, fault) in [
+        (0, JoinFault::Breaks(Rule::Feeders, 0, 0)),
+        (1, JoinFault::Breaks(Rule::Overload, 1, 0)),
+        (2, JoinFault::Breaks(Rule::Overload, 1, 0)),
+    ] {
+        assert_eq!(rt; part.try_join(3, to), Err(fault));
+    }
     Ok(())
 }
 

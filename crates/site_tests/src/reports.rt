@@ -1,5 +1,6 @@
 ghost use Rattle.std.specs.Prelude.{All};
-ghost use Rattle.plan_report.specs.Reported.{IsReported, NamesPoint};
+ghost use Rattle.plan_report.specs.Reported.{IsReported};
+ghost use Rattle.site_text.specs.Verdict.{NamesPoint};
 
 use cable_definitions::claim::Claim;
 use cable_text::{MemorySink, Sink};

@@ -1,5 +1,7 @@
+use cable_text::MemorySink;
 use site_json::read_json;
-use site_model::{Kind, Mode, PairRule, SiteCode, SiteFault};
+use site_model::{SiteCode, SiteFault};
+use site_text::write_site;
 use std::alloc::Global;
 use std::test::Fail;
 
@@ -30,43 +32,32 @@ fn refusal(code: SiteCode, place: u64) -> Option<SiteFault> {
     })
 }
 
-#[test]
-fn the_first_example_is_read(rt: HostRuntime) -> Result<(), Fail> {
-    let site = read_json(rt.alloc(), FIRST.as_bytes())?;
-    assert_eq!(rt; site.mode(), Mode::Tree);
-    assert_eq!(rt; site.types().len(), 1);
-    assert_eq!(rt; site.types()[0].price, 100);
-    assert_eq!(rt; site.points().len(), 2);
-    assert_eq!(rt;
-        site.points()[0].kind,
-        Kind::Substation {
-            feeders: 4,
-            power: 10_000
-        }
-    );
-    assert_eq!(rt; site.points()[1].kind, Kind::Turbine { power: 100 });
-    assert_eq!(rt; site.points()[1].name.as_slice(), b"A".as_slice());
-    assert_eq!(rt; site.points()[1].at.y, 400);
-    assert!(rt; site.obstacles().is_empty());
-    assert!(rt; site.pairs().is_empty());
-    Ok(())
+/// Sites in JSON, and their lines.
+const READ: [(&str, &str); 2] = [
+    (
+        FIRST,
+        "site 1\nmode tree\ntype 400 100\nsubstation S 0 0 4 10000\nturbine A 300 400 100\nend site\n",
+    ),
+    (
+        EVERY_KIND,
+        "site 1\nmode strings\ntype 400 100\ntype 800 170\nsubstation S 0 0 4 10000\nturbine A 300 -400 100\nbend K 200 500\nobstacle 3\ncorner -100 400\ncorner 100 400\ncorner 100 600\ncharge K S 7500\nclosed A S\nend site\n",
+    ),
+];
+
+/// The lines of a site in JSON.
+fn lines_of(alloc: Global, text: &str) -> Result<Vec<u8>, Fail> {
+    let site = read_json(alloc, text.as_bytes())?;
+    let mut sink = MemorySink::new(alloc, 512, Vec::new(alloc))?;
+    write_site(&site, &mut sink)?;
+    Ok(Vec::from_slice(alloc, sink.taken())?)
 }
 
 #[test]
-fn a_site_of_every_kind_of_item_is_read(rt: HostRuntime) -> Result<(), Fail> {
-    let site = read_json(rt.alloc(), EVERY_KIND.as_bytes())?;
-    assert_eq!(rt; site.mode(), Mode::Strings);
-    assert_eq!(rt; site.types().len(), 2);
-    assert_eq!(rt; site.types()[1].capacity, 800);
-    assert_eq!(rt; site.points().len(), 3);
-    assert_eq!(rt; site.points()[1].name.as_slice(), b"A".as_slice());
-    assert_eq!(rt; site.points()[1].at.y, -400);
-    assert_eq!(rt; site.points()[2].kind, Kind::Bend);
-    assert_eq!(rt; site.obstacles().len(), 1);
-    assert_eq!(rt; site.obstacles()[0].as_slice().len(), 3);
-    assert_eq!(rt; site.pairs().len(), 2);
-    assert_eq!(rt; site.pairs()[0].rule, PairRule::Charge(7500));
-    assert_eq!(rt; site.pairs()[1].rule, PairRule::Closed);
+fn sites_of_every_kind_of_item_are_read(rt: HostRuntime) -> Result<(), Fail> {
+    for (text, lines) in READ {
+        let read = lines_of(rt.alloc(), text)?;
+        assert_eq!(rt; read.as_slice(), lines.as_bytes());
+    }
     Ok(())
 }
 
