@@ -1,10 +1,11 @@
 -- For callers too: lawful weights, weight by weight.
-use Rattle.std.proofs.Common.{◌≡◌, ℕ, zero, suc, ◌+◌, ◌≤◌, ◌<◌, inl, inr, ◌⊎◌, ℤ, pos, ◌<ℤ◌, List, [], ◌∷◌, length, get_or, slice_get, Some, None, Bool, true, false, below_more, refl, ap, ◌∙◌, subst, arith}
+use Rattle.std.proofs.Common.{◌≡◌, ℕ, ◌+◌, ◌≤◌, ◌<◌, inl, inr, ◌⊎◌, ℤ, pos, ◌<ℤ◌, List, length, get_or, slice_get, Some, None, Bool, true, false, below_more, refl, ap, ◌∙◌, subst, arith}
 use Rattle.std.specs.Prelude.{IsTrue}
 use Rattle.std.proofs.lemmas.Int.{ints}
 use Rattle.std.proofs.lemmas.Option.{slice_get_cases}
 use Rattle.cable_definitions.specs.Row.{Row, is_equation}
 use Rattle.cable_definitions.specs.Choice.{AreLawful}
+use Rattle.cable_rows.proofs.Listing.{get_or-same}
 use Rattle.bound_value.specs.Lawful.{IsLawfulWeight}
 
 -- a row with a lawful weight below 0 is an equation
@@ -26,16 +27,6 @@ pub record AreLawfulBelow (rows : List Row) (weights : List (ℕ × ℤ)) (count
   pub lawful : (k : ℕ) → k < count → (d : ℕ × ℤ) → IsLawfulWeight rows (get_or weights k d).0 (get_or weights k d).1
   pub below : (k : ℕ) → k < count → (d : ℕ × ℤ) → (get_or weights k d).0 < next
   pub follows : (next ≡ 0) ⊎ ((k : ℕ) × (k < count) × ((d : ℕ × ℤ) → (get_or weights k d).0 + 1 ≡ next))
-
--- a weight is the same whatever is asked for past the end
-get_or-same : (weights : List (ℕ × ℤ)) (i : ℕ) (d e : ℕ × ℤ) → i < length weights → get_or weights i d ≡ get_or weights i e
-get_or-same [] i d e l = absurd (omega arith)
-get_or-same (w ∷ weights) zero d e l = refl
-get_or-same (w ∷ weights) (suc i) d e l = get_or-same weights i d e (omega arith)
-
--- a weight that was read
-pub weight_read : (items weights : List (ℕ × ℤ)) (i : ℕ) (d : ℕ × ℤ) → items ≡ weights → i < length weights → get_or items i d ≡ get_or weights i (get_or items i d)
-weight_read items weights i d e l = ap (λ (xs : List (ℕ × ℤ)). get_or xs i d) e ∙ get_or-same weights i d (get_or items i d) l
 
 -- one weight more
 pub lawful_more : (rows : List Row) (weights : List (ℕ × ℤ)) (count next : ℕ) (w : ℕ × ℤ) → count < length weights → w ≡ get_or weights count w → next ≤ w.0 → IsLawfulWeight rows w.0 w.1

@@ -4,8 +4,8 @@ ghost use Rattle.std.specs.Prelude.{◌<◌, ◌↔◌, IsTrue};
 ghost use Rattle.cable_definitions.specs.Choice.{AreLawful};
 ghost use Rattle.bound_value.specs.Lawful.{IsLawfulWeight};
 
-use crate::Weights;
 use cable_rows::RowPool;
+use node_works::Weights;
 
 /// The greatest absolute value of a weight: 2^76.
 const MOST_WEIGHT: u128 = 75_557_863_725_914_323_419_136;

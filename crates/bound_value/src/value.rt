@@ -5,13 +5,12 @@ ghost use Rattle.cable_definitions.specs.Arcs.{AreArcs};
 ghost use Rattle.cable_definitions.specs.Row.{right};
 ghost use Rattle.cable_definitions.specs.Choice.{AreLawful, AtMost, IsSumOfExtremes, IsValue, reduced_cost, sum_weighted};
 ghost use Rattle.cable_definitions.specs.Tree.{IsBound};
+ghost use Rattle.cable_rows.specs.Sums.{sets_of, ArePointSums, AreSmallSums};
 
-use crate::counts::weighted;
-use crate::sets::{WeightList, find_near, turn_to, weights_on_sets};
-use crate::sums::point_sums;
-use crate::{Decisions, Weights, least_choice};
-use cable_rows::RowPool;
+use arc_choices::least_choice;
+use cable_rows::{PointSums, RowPool, WeightList, find_near, find_sets, turn_to, weighted};
 use candidate_cables::{Arc, Arcs};
+use node_works::{Decisions, Weights};
 use site_model::Site;
 
 /// How many units of a weight or a value make a cost unit.
@@ -28,6 +27,28 @@ fn weighted_right_sides(site: &Site, pool: &RowPool, weights: &Weights) -> i128
         sum += weighted(weight.1, pool.right(site, weight.0));
     }
     sum
+}
+
+/// The sums of what weights count by the ends of arcs.
+fn point_sums(pool: &RowPool, weights: &Weights) -> PointSums
+    requires { AreLawful pool.now weights.now }
+    ensures sums { ArePointSums pool.now weights.now result }
+    ensures small { AreSmallSums result }
+    ensures few { length weights.now ≤ 1024 }
+{
+    let mut sums = PointSums::new();
+    sums.sum_up(pool, weights);
+    sums
+}
+
+/// The weights on rows that count arcs by more than one of their ends.
+fn weights_on_sets(pool: &RowPool, weights: &Weights) -> WeightList
+    requires { AreLawful pool.now weights.now }
+    ensures { result ≡ sets_of pool.now weights.now }
+{
+    let mut sets = WeightList::new();
+    find_sets(pool, weights, &mut sets);
+    sets
 }
 
 /// The sum over the arcs of the least that a choice leaves of its cost.
@@ -62,9 +83,9 @@ fn least_choices(
 }
 
 /// The value of weights in the box of a node's decisions, over 2^20 of a cost unit: the weighted sum of the right sides of the weighted rows
-/// and, over the arcs, the least that a choice leaves of its cost. The weights have to be lawful; then the 2^20th part of their value is at
-/// most the cost of each legal layout in the box, which `values_are_bounds` in proof_laws proves. The arcs are those of the site, with one
-/// mark each. It takes no memory.
+/// and, over the arcs, the least that a choice leaves of its cost. It is the Lagrangian dual function of the listed rows (Geoffrion, 1974),
+/// arc by arc. The weights have to be lawful; then the 2^20th part of their value is at most the cost of each legal layout in the box, which
+/// `values_are_bounds` in proof_laws proves. The arcs are those of the site, with one mark each. It takes no memory.
 pub fn weigh(
     site: &Site,
     arcs: &Arcs,

@@ -1,7 +1,9 @@
+//! Greatest common divisors.
+
 ghost use Rattle.std.specs.Prelude.{◌≤◌};
 ghost use Rattle.std.specs.Int.{IsGcd};
 
-// The greatest common divisor, by Euclid's steps.
+/// The greatest common divisor, by Euclid's steps.
 pub fn greatest_divisor(a: u64, b: u64) -> u64
     ensures { IsGcd a b result }
 {
@@ -15,7 +17,7 @@ pub fn greatest_divisor(a: u64, b: u64) -> u64
     divisor
 }
 
-// The same of a wide number: its first step leaves a narrow one.
+/// The greatest common divisor of a wide number and a narrow one: its first step leaves a narrow rest.
 pub fn shared_divisor(wide: u128, narrow: u64) -> u64
     requires { 1 ≤ narrow }
     ensures { IsGcd wide narrow result }

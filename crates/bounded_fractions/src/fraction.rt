@@ -1,3 +1,5 @@
+//! Fractions in range, and their calls, which tell where a result is out of range.
+
 ghost use Rattle.std.specs.Prelude.{◌≤ℤ◌, ◌≤◌, ◌^◌, pos, unsigned_abs};
 ghost use Rattle.fraction_laws.specs.Divisor.{AreCoprime};
 
@@ -129,7 +131,7 @@ impl Fraction {
             .cmp(&other.times(self.den_size()))
     }
 
-    // The number with the other sign.
+    /// The number with the other sign.
     pub(crate) fn opposite(self) -> Fraction
         ensures { value_of result ≡ neg_ℚ (value_of self) }
     {
@@ -139,7 +141,7 @@ impl Fraction {
         }
     }
 
-    // 1 over the number.
+    /// 1 over the number.
     pub(crate) fn turned(self) -> Fraction
         requires { self.num ≢ pos 0 }
         ensures { value_of result ≡ inverse (value_of self) }
@@ -156,21 +158,21 @@ impl Fraction {
         }
     }
 
-    // The numerator without its sign.
+    /// The numerator without its sign.
     pub(crate) fn num_size(self) -> u64
         ensures { result ≡ unsigned_abs self.num }
     {
         self.num.unsigned_abs()
     }
 
-    // The denominator, which has no sign.
+    /// The denominator, which has no sign.
     pub(crate) fn den_size(self) -> u64
         ensures { result ≡ unsigned_abs self.den }
     {
         self.den.unsigned_abs()
     }
 
-    // The numerator times a number that is no more than a denominator.
+    /// The numerator times a number that is no more than a denominator.
     pub(crate) fn times(self, factor: u64) -> i128
         requires { factor ≤ 2 ^ 62 }
         ensures { result ≡ self.num *ℤ pos factor }
@@ -178,7 +180,7 @@ impl Fraction {
         i128::from(self.num) * i128::from(factor)
     }
 
-    // The numerator divided by a number that is no more than a denominator.
+    /// The numerator divided by a number that is no more than a denominator.
     pub(crate) fn part(self, divisor: u64) -> i128
         requires some { 1 ≤ divisor }
         requires no_more { divisor ≤ 2 ^ 62 }

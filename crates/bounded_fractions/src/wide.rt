@@ -1,13 +1,15 @@
+//! Fractions in lowest terms that may be out of range: what two fractions give before it is looked whether it fits.
+
 ghost use Rattle.std.specs.Prelude.{◌≤◌, unsigned_abs};
 ghost use Rattle.fraction_laws.specs.Divisor.{AreCoprime};
 
 use crate::divisor::{greatest_divisor, shared_divisor};
 use crate::fraction::Fraction;
 
-// The greatest numerator and the greatest denominator.
+/// The greatest numerator and the greatest denominator.
 const MOST: u128 = 1 << 62;
 
-// A fraction in lowest terms that may be out of range.
+/// A fraction in lowest terms that may be out of range.
 #[derive(Clone, Copy)]
 pub struct WideFraction {
     num: i128,
@@ -23,7 +25,7 @@ impl WideFraction {
     ghost use Rattle.bounded_fractions.specs.Value.{value_of};
     ghost use Rattle.bounded_fractions.specs.Wide.{wide_value};
 
-    // The quotient of two whole numbers.
+    /// The quotient of two whole numbers.
     pub fn quotient(num: i64, den: i64) -> WideFraction
         requires { den ≢ pos 0 }
         ensures { wide_value result ≡ whole num /ℚ whole den }
@@ -43,9 +45,9 @@ impl WideFraction {
         }
     }
 
-    // The sum, over the least common denominator. What its numerator then has in common with that
-    // denominator is a part of what the two denominators have in common, so no long number is divided
-    // step by step.
+    /// The sum, over the least common denominator. What its numerator then has in common with that
+    /// denominator is a part of what the two denominators have in common, so no long number is divided
+    /// step by step.
     pub fn sum(left: Fraction, right: Fraction) -> WideFraction
         ensures { wide_value result ≡ value_of left +ℚ value_of right }
     {
@@ -64,7 +66,7 @@ impl WideFraction {
         }
     }
 
-    // The sum of two fractions over one denominator; whole numbers need no division.
+    /// The sum of two fractions over one denominator; whole numbers need no division.
     fn sum_over(left: Fraction, right: Fraction, den: u64) -> WideFraction
         requires left_is { unsigned_abs left.den ≡ den }
         requires right_is { unsigned_abs right.den ≡ den }
@@ -81,8 +83,8 @@ impl WideFraction {
         }
     }
 
-    // The product: each numerator and the other denominator are divided before they are multiplied;
-    // whole numbers need no division.
+    /// The product: each numerator and the other denominator are divided before they are multiplied;
+    /// whole numbers need no division.
     pub fn product(left: Fraction, right: Fraction) -> WideFraction
         ensures { wide_value result ≡ value_of left *ℚ value_of right }
     {
@@ -99,7 +101,7 @@ impl WideFraction {
         }
     }
 
-    // The product of two whole numbers.
+    /// The product of two whole numbers.
     fn whole_product(left: Fraction, right: Fraction) -> WideFraction
         requires left_is { unsigned_abs left.den ≡ 1 }
         requires right_is { unsigned_abs right.den ≡ 1 }
@@ -111,14 +113,14 @@ impl WideFraction {
         }
     }
 
-    // The difference.
+    /// The difference.
     pub fn difference(left: Fraction, right: Fraction) -> WideFraction
         ensures { wide_value result ≡ value_of left -ℚ value_of right }
     {
         WideFraction::sum(left, right.opposite())
     }
 
-    // The quotient of two fractions.
+    /// The quotient of two fractions.
     pub fn ratio(left: Fraction, right: Fraction) -> WideFraction
         requires { right.num ≢ pos 0 }
         ensures { wide_value result ≡ value_of left /ℚ value_of right }
@@ -126,7 +128,7 @@ impl WideFraction {
         WideFraction::product(left, right.turned())
     }
 
-    // The fraction, where it is in range.
+    /// The fraction, where it is in range.
     pub fn fitted(self) -> Option<Fraction>
         ensures found { IfSome result (λ r. value_of r ≡ wide_value self) }
         ensures none { IsNone result ↔ ¬ IsInRange (wide_value self) }

@@ -3,7 +3,7 @@ use Rattle.std.specs.Prelude.{◌≡◌, ℕ, ◌+◌, ◌-◌, ◌<◌, List, [
 use Rattle.cable_definitions.specs.declared.row.Mark.TheVariants.{Used, Unused}
 use Rattle.cable_definitions.specs.declared.row.Act.{Act}
 use Rattle.cable_definitions.specs.declared.row.Act.TheVariants.{Split, Stop, Dead, Full}
-use Rattle.cable_definitions.specs.Tree.{Node, Status, Unworked, WasSplit, Stopped, WasDead, WasFull, node_of, worked, child, root}
+use Rattle.cable_definitions.specs.Tree.{Node, Status, WasSplit, Stopped, WasDead, WasFull, node_of, worked, child, root}
 
 -- a tree for so many works over so many arcs: its made nodes (node 1 first) and the number of its works
 pub record TreeState : Type 0 where
@@ -37,10 +37,6 @@ tree_after tree v node act bound = record tree { nodes = nodes_after tree.nodes 
 -- node number v was made
 abbrev pub IsMade : List Node → ℕ → Type 0
 IsMade nodes v = (node : Node) × (node_of nodes v ≡ Some node)
-
--- node number v was made and isn't worked
-abbrev pub IsUnworked : List Node → ℕ → Type 0
-IsUnworked nodes v = (node : Node) × (node_of nodes v ≡ Some node) × (node.status ≡ Unworked)
 
 -- an act names an arc below this number
 abbrev pub ActIsWithin : ℕ → Act → Type 0

@@ -4,7 +4,7 @@
 mod node;
 mod tree;
 
-pub use bound_value::Work;
 pub use cable_definitions::claim::{Cause, Claim, Refusal};
 pub use cable_definitions::row::{Act, Why};
+pub use node_works::Work;
 pub use tree::{Tree, TreeFault};

@@ -1,3 +1,5 @@
+//! The nodes of a tree, in the order in which they are made, and what an act makes of them.
+
 ghost use Rattle.std.specs.Prelude.{◌≡◌, ℕ, ◌+◌, ◌-◌, ◌*◌, ◌≤◌, ◌<◌, ◌≢◌, ◌↔◌, IsTrue, ◌∷◌, [], ◌++◌, slice_get, Some, length, map, List, vec_len, vec_capacity};
 ghost use Rattle.std.specs.Option.{option_map};
 ghost use Rattle.cable_definitions.specs.declared.row.Mark.{Mark as AMark};
@@ -5,8 +7,8 @@ ghost use Rattle.cable_definitions.specs.Tree.{Node, node_of, Unworked as Unwork
 ghost use Rattle.branch_tree.specs.Nodes.{as_node, as_status, ArePlaced, or_mark, IsLeastOf};
 ghost use Rattle.branch_tree.specs.State.{nodes_after, status_after};
 
-use bound_value::Decisions;
 use cable_definitions::row::{Act, Mark};
+use node_works::Decisions;
 
 /// What was done with a node.
 #[derive(Clone, Copy)]
@@ -43,7 +45,7 @@ pub(crate) fn node_at(nodes: &[TreeNode], node: u32) -> Option<TreeNode>
 }
 
 /// The node of a number that was made.
-fn kept_node(nodes: &[TreeNode], node: u32) -> TreeNode
+fn stored_node(nodes: &[TreeNode], node: u32) -> TreeNode
     requires made { 1 ≤ node }
     requires within { node ≤ length nodes.now }
     ensures { slice_get (map as_node nodes.now) (node - 1) ≡ Some (as_node result) }
@@ -86,7 +88,7 @@ pub(crate) fn do_act(nodes: &mut Vec<TreeNode>, node: u32, act: Act, bound: u128
     ensures count { length nodes.new.items ≤ length nodes.old.items + 2 }
     ensures room { vec_capacity nodes.old ≤ vec_capacity nodes.new }
 {
-    let old = kept_node(nodes.as_slice(), node);
+    let old = stored_node(nodes.as_slice(), node);
     nodes[node as usize - 1] = TreeNode {
         parent: old.parent,
         arc: old.arc,
@@ -136,7 +138,7 @@ pub(crate) fn mark_decided(nodes: &[TreeNode], node: u32, into: &mut Decisions)
 {
     let mut at = node;
     while at > 1 {
-        let here = kept_node(nodes, at);
+        let here = stored_node(nodes, at);
         mark_if_free(into, here.arc, here.mark);
         at = here.parent;
     }
@@ -174,13 +176,13 @@ pub(crate) fn least_bound(nodes: &[TreeNode]) -> Option<u128>
 {
     let mut least = None;
     for node in nodes {
-        least = with_node(least, node);
+        least = lesser_with_node(least, node);
     }
     least
 }
 
 /// The least of a bound and that of a node, where the node is a leaf that isn't dead.
-fn with_node(least: Option<u128>, node: &TreeNode) -> Option<u128>
+fn lesser_with_node(least: Option<u128>, node: &TreeNode) -> Option<u128>
     ensures { (nodes : List Node) → IsLeastOf nodes least → IsLeastOf (nodes ++ as_node node.now ∷ []) result }
 {
     if !is_open_leaf(node) {

@@ -1,13 +1,16 @@
+//! The tree of nodes, made by works that a budget bounds.
+
 ghost use Rattle.std.specs.Prelude.{◌≡◌, ℕ, ◌+◌, ◌^◌, ◌≤◌, ◌<◌, ◌↔◌, ◌≢◌, pos, nat_abs, ◌≤ℤ◌, ◌<ℤ◌, List, length, IsTrue, IfOk, OnOk, OnErr, IfSome, IfNone, Some, None};
 ghost use Rattle.cable_definitions.specs.declared.cable.Arc.{Arc};
 ghost use Rattle.cable_definitions.specs.Tree.{Node, node_of, marks_of, ProofState, IsLeastBound, AllDead, Unworked as UnworkedStatus};
-ghost use Rattle.branch_tree.specs.State.{TreeState, new_tree, tree_after, IsMade, IsUnworked, ActIsWithin};
+ghost use Rattle.proof_laws.specs.WorksLeft.{IsUnworked};
+ghost use Rattle.branch_tree.specs.State.{TreeState, new_tree, tree_after, IsMade, ActIsWithin};
 
 use crate::node::{
     TreeNode, do_act, free_all, is_unworked, least_bound, mark_decided, node_at, root,
 };
-use bound_value::Decisions;
 use cable_definitions::row::Act;
+use node_works::Decisions;
 use std::alloc::{AllocError, Global};
 use std::marker::Model;
 

@@ -1,3 +1,5 @@
+//! What a site is made of: its version and mode, points, cable types, obstacles and pair rules, and the codes of its faults.
+
 ghost use Rattle.std.specs.Prelude.{◌≡◌, ◌↔◌, ◌≤◌, IsTrue, IsSome, IfSome, length};
 ghost use Rattle.cable_definitions.specs.Naming.{IsName, is_name_byte};
 

@@ -31,8 +31,8 @@ fn member_count(site: &Site, arcs: &Arcs, kind: RowKind) -> u32
     }
 }
 
-/// Whether a row of this kind speaks of a point of that kind.
-fn speaks_of(row: RowKind, kind: Kind) -> bool
+/// Whether rows of a kind speak of points of that kind.
+pub fn speaks_of(row: RowKind, kind: Kind) -> bool
     ensures { result ≡ speaks_of_kind row kind }
 {
     match row {

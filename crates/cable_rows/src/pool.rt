@@ -1,7 +1,11 @@
+//! Well-formed rows by their numbers, in a room that is taken once.
+
 ghost use Rattle.std.specs.Prelude.{◌≡◌, ◌≢◌, ◌+◌, ◌≤◌, ◌<◌, ◌↔◌, ℕ, List, [], ◌∷◌, ◌++◌, length, sum_by, unsigned_abs, slice_get, Some, IfOk, OnOk, OnErr, IsOk, IsTrue, All, AllPairs, slice_index_or, false};
 ghost use Rattle.cable_definitions.specs.declared.cable.Arc.{Arc as AnArc};
 ghost use Rattle.cable_definitions.specs.Arcs.{AreArcs};
-ghost use Rattle.cable_definitions.specs.Row.{Row, IsWellFormed, is_member, has_one_member, is_equation as is_equation_of, right as right_of, on_use, on_load};
+ghost use Rattle.cable_definitions.specs.declared.cable.Cable.{Cable};
+ghost use Rattle.cable_definitions.specs.Layout.{IsLegal};
+ghost use Rattle.cable_definitions.specs.Row.{Row, IsWellFormed, Holds, is_member, has_one_member, is_equation as is_equation_of, right as right_of, on_use, on_load};
 
 use crate::coefficients::{minus_one_if, of_ends};
 use crate::sides::right_side;
@@ -26,7 +30,7 @@ pub struct Full;
 /// A row of a pool: its members stand in the pool's list from `start` up to `end`, and `has` tells of each point whether it is one of them;
 /// of a row on arcs it tells nothing.
 #[derive(Drop)]
-pub(crate) struct KeptRow {
+pub(crate) struct StoredRow {
     kind: RowKind,
     start: u32,
     end: u32,
@@ -37,7 +41,7 @@ pub(crate) struct KeptRow {
 /// is taken when the pool is made.
 #[derive(Drop)]
 pub struct RowPool {
-    rows: Vec<KeptRow>,
+    rows: Vec<StoredRow>,
     members: Vec<u32>,
 }
 
@@ -92,8 +96,8 @@ impl RowPool {
         ensures ascending { (r : Row) → slice_get self.now row ≡ Some r → AllPairs (λ m n. m < n) r.members }
         ensures one { (r : Row) → slice_get self.now row ≡ Some r → IsTrue (has_one_member r.kind) → length r.members ≡ 1 }
     {
-        let kept = &self.rows[row as usize];
-        &self.members[kept.start as usize..kept.end as usize]
+        let stored = &self.rows[row as usize];
+        &self.members[stored.start as usize..stored.end as usize]
     }
 
     /// Whether a row asks that both its sides are equal; another row asks that its left side is at least its right side.
@@ -121,9 +125,9 @@ impl RowPool {
         requires { row < length self.now }
         ensures { (r : Row) → slice_get self.now row ≡ Some r → r.kind ≢ RowKind.One → result ≡ is_member r.members p }
     {
-        let kept = &self.rows[row as usize];
+        let stored = &self.rows[row as usize];
         if p < 256 {
-            return kept.has[p as usize];
+            return stored.has[p as usize];
         }
         false
     }
@@ -155,7 +159,7 @@ impl RowPool {
         of_ends(kind, self.has_point(row, from), self.has_point(row, to))
     }
 
-    /// Lists a row, which has to be well formed, and answers its number. It takes no memory.
+    /// Lists a row, which has to be well formed, and answers its number; such a row holds of every legal layout. It takes no memory.
     ///
     /// # Errors
     ///
@@ -173,6 +177,7 @@ impl RowPool {
         ensures room { IsOk result ↔ ((length self.old < 16384) × (sum_by (λ r. length r.members) self.old + length members.now ≤ 1048576)) }
         ensures number { IfOk result (λ row. row ≡ length self.old) }
         ensures listed { OnOk result (self.new ≡ self.old ++ record { kind = kind; members = members.now } ∷ []) }
+        ensures holds { OnOk result ((cables : List Cable) → IsLegal site.now cables → Holds site.now arcs.now (record { kind = kind; members = members.now }) cables) }
         ensures full { OnErr result (self.new ≡ self.old) }
     {
         // The points of a site come with the fact that it is valid.
@@ -185,7 +190,7 @@ impl RowPool {
         if members.len() > MOST_MEMBERS - start {
             return Err(Full);
         }
-        let kept = KeptRow {
+        let stored = StoredRow {
             kind,
             start: start as u32,
             end: (start + members.len()) as u32,
@@ -195,7 +200,7 @@ impl RowPool {
             Ok(()) => {}
             Err(_) => return Err(Full),
         }
-        self.rows.push_reserved(kept);
+        self.rows.push_reserved(stored);
         Ok(row as u32)
     }
 }

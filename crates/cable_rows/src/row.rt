@@ -1,3 +1,5 @@
+//! A row by itself, well formed or not.
+
 ghost use Rattle.std.specs.Prelude.{◌≡◌, IfOk};
 
 use cable_definitions::row::RowKind;

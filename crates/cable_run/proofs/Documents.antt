@@ -19,7 +19,7 @@ use Rattle.cable_definitions.specs.Refusal.{AtBudget, IsRefusedAfter, IsRefusedB
 use Rattle.cable_definitions.specs.Report.{report_text}
 use Rattle.cable_definitions.specs.Answers.{yes_line}
 use Rattle.cable_definitions.specs.declared.claim.Refusal.{Refusal}
-use Rattle.cable_text.specs.Stream.{GivesFront, IsAtEnd}
+use Rattle.cable_definitions.specs.Stream.{GivesFront, IsAtEnd}
 use Rattle.site_text.specs.Reading.{lines_after}
 use Rattle.site_input.proofs.Forms.{behind, first_fault}
 use Rattle.site_model.specs.declared.fault.SiteFault.{SiteFault}
@@ -58,7 +58,7 @@ yes_behind s middle cables claim valid h = record {
   budget = h.budget;
   items = h.items;
   cables = cables;
-  kept = h.kept;
+  kept = h.state;
   valid = valid;
   are_arcs = h.are_arcs;
   is_budget = h.is_budget;

@@ -7,7 +7,7 @@ use Rattle.cable_definitions.specs.declared.claim.Claim.{Claim}
 use Rattle.cable_definitions.specs.Site.{Site, IsValid}
 use Rattle.cable_definitions.specs.Arcs.{AreArcs}
 use Rattle.cable_definitions.specs.Drill.{IsDrillSite, drill_line}
-use Rattle.plan_search.specs.Found.{FindsPlan}
+use Rattle.search_parts.specs.Outcome.{FindsPlan}
 use Rattle.run_definitions.specs.Effect.{Effect, Faulted, WroteFirstPart}
 use Rattle.run_definitions.specs.Ends.{IsDrilled}
 use Rattle.cable_run.specs.declared.fault.Fault.TheVariants.{Write}

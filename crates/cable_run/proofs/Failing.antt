@@ -1,7 +1,7 @@
 -- Notes whose push failed.
 use Rattle.std.proofs.Common.{ℕ, ◌≤◌, List, inl, arith, ⊎_elim}
 use Rattle.cable_definitions.specs.Answers.{write_fault_note}
-use Rattle.cable_text.specs.Stream.{StreamState, Rose, FaultsRose, FaultsOnlyRise, AppendsPrefix}
+use Rattle.cable_definitions.specs.Stream.{StreamState, Rose, FaultsRose, FaultsOnlyRise, AppendsPrefix}
 use Rattle.run_definitions.specs.Effect.{effect, Noted, NoteFailed}
 
 -- a count that rose stays risen

@@ -12,7 +12,7 @@ use Rattle.cable_definitions.specs.declared.site.SiteCode.{SiteCode}
 use Rattle.cable_definitions.specs.Items.{Field, within, IsLineFault}
 use Rattle.cable_definitions.specs.Refusal.{DocLine, BudgetLine, RowLine, WorkLine, WeightLine, ActLine, LayoutLine, CableLine, ClaimLine, EndLine, Phase, AtJudged, AtAnyCables, Reader, reader_at, is_allowed, after_cable, IsReadable, ReadsLines, IsRefusedAfter, IsJudgeRefused}
 use Rattle.cable_definitions.specs.declared.claim.Refusal.{Refusal}
-use Rattle.cable_text.specs.Stream.{Rose, GivesFront}
+use Rattle.cable_definitions.specs.Stream.{Rose, GivesFront}
 use Rattle.cable_text.proofs.Writing.{Rose-after}
 use Rattle.proof_text.specs.Reading.{line_number_after, RefusedAfter, IsRefusedHere, IfRefused, IfRead}
 use Rattle.site_input.proofs.Forms.{behind, first_fault}

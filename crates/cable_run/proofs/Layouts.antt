@@ -7,7 +7,7 @@ use Rattle.cable_definitions.specs.declared.cable.Arc.{Arc}
 use Rattle.cable_definitions.specs.Site.{Site}
 use Rattle.cable_definitions.specs.Refusal.{DocLine, LayoutLine, Reader, reader_at, AtJudged, AtAnyCables, may_end, ReadsLines}
 use Rattle.cable_definitions.specs.declared.claim.Refusal.{Refusal}
-use Rattle.cable_text.specs.Stream.{IsAtEnd}
+use Rattle.cable_definitions.specs.Stream.{IsAtEnd}
 use Rattle.cable_text.specs.Lines.{to_come}
 use Rattle.site_input.proofs.Forms.{left_at_end}
 use Rattle.proof_text.specs.declared.fault.ItemFault.{ItemFault}

@@ -18,7 +18,7 @@ use Rattle.cable_definitions.specs.Part.{IsGrown}
 use Rattle.cable_definitions.specs.Tree.{Item, ProofState, IsAccepted, LayoutAgrees, empty_state}
 use Rattle.cable_definitions.specs.Text.{line, site_lines, item_lines, cable_line, claim_line, document_text}
 use Rattle.cable_definitions.specs.Document.{IsClaimInRange}
-use Rattle.cable_text.specs.Stream.{Appends, AppendsPrefix}
+use Rattle.cable_definitions.specs.Stream.{Appends, AppendsPrefix}
 use Rattle.cable_text.proofs.Writing.{Appends-then, AppendsPrefix-front, AppendsPrefix-then}
 use Rattle.layout_meaning.proofs.Costing.{cost_small, load_small_at}
 use Rattle.document_laws.proofs.Counting.{cables-most}
@@ -26,9 +26,9 @@ use Rattle.proof_laws.proofs.FullLemma.{within-turbine}
 use Rattle.proof_laws.proofs.Sound.{sound-accepted, says-sound}
 use Rattle.proof_lines.specs.Written.{EndsAtPoints, layout_lines}
 use Rattle.site_text.specs.Verdict.{NamesPoint}
-use Rattle.plan_search.specs.Found.{IsOutcome, FindsPlan, WritesPart, HasCost}
-use Rattle.plan_search.specs.declared.finding.SearchFault.{SearchFault}
-use Rattle.plan_search.specs.declared.finding.SearchFault.TheVariants.{Write as SearchWrite, Memory as SearchMemory}
+use Rattle.search_parts.specs.Outcome.{IsOutcome, FindsPlan, WritesPart, HasCost}
+use Rattle.search_core.specs.declared.searching.SearchFault.{SearchFault}
+use Rattle.search_core.specs.declared.searching.SearchFault.TheVariants.{Write as SearchWrite, Memory as SearchMemory}
 use Rattle.run_definitions.specs.Effect.{Effect, Faulted}
 use Rattle.run_definitions.specs.Plan.{IsPlan, IsPlanBegun}
 use Rattle.run_definitions.specs.Rounds.{IsOfLayout, ComeFromSearch}

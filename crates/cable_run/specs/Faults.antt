@@ -7,8 +7,8 @@ use Rattle.proof_text.specs.declared.fault.ItemFault.{ItemFault}
 use Rattle.proof_text.specs.declared.fault.ItemFault.TheVariants.{Refused as RefusedLine, Read as LineRead}
 use Rattle.document_check.specs.declared.document.DocumentFault.{DocumentFault}
 use Rattle.document_check.specs.declared.document.DocumentFault.TheVariants.{Refused as RefusedDocument, Read as DocumentRead, Memory as DocumentMemory}
-use Rattle.plan_search.specs.declared.finding.SearchFault.{SearchFault}
-use Rattle.plan_search.specs.declared.finding.SearchFault.TheVariants.{Write as SearchWrite, Memory as SearchMemory}
+use Rattle.search_core.specs.declared.searching.SearchFault.{SearchFault}
+use Rattle.search_core.specs.declared.searching.SearchFault.TheVariants.{Write as SearchWrite, Memory as SearchMemory}
 use Rattle.cable_run.specs.declared.fault.Fault.{Fault}
 use Rattle.cable_run.specs.declared.fault.Fault.TheVariants.{OfSite, OfDocument, Read, Write, Memory}
 

@@ -1,17 +1,14 @@
 //! The command `check`: a yes to a document that is accepted.
 
-ghost use Rattle.std.specs.Prelude.{◌≡◌};
-ghost use Rattle.std.specs.Fmt.{decimal};
 ghost use Rattle.cable_definitions.specs.Answers.{yes_line};
-ghost use Rattle.cable_text.specs.Stream.{Writes};
-ghost use Rattle.cable_text.specs.Fields.{field_text};
+ghost use Rattle.cable_definitions.specs.Stream.{Writes};
 ghost use Rattle.run_definitions.specs.Effect.{effect};
 ghost use Rattle.cable_run.specs.Steps.{CheckGives};
 
 use crate::document::read_checked;
 use crate::fault::Fault;
 use cable_definitions::claim::Claim;
-use cable_text::{Failed, Field, Sink, Source, push_line};
+use cable_text::{Failed, Field, Sink, Source, count_of, push_line};
 use run_definitions::ending::Ending;
 use std::alloc::Global;
 
@@ -38,25 +35,18 @@ fn write_yes<O: Sink>(claim: Claim, out: &mut O) -> Result<(), Failed>
         Claim::Optimal(cost) => {
             push_line(
                 b"yes",
-                &[cost_word, number(cost), bound_word, number(cost)],
+                &[cost_word, count_of(cost), bound_word, count_of(cost)],
                 out,
             )
         }
         Claim::Gap { cost, bound } => {
             push_line(
                 b"yes",
-                &[cost_word, number(cost), bound_word, number(bound)],
+                &[cost_word, count_of(cost), bound_word, count_of(bound)],
                 out,
             )
         }
-        Claim::Partial { bound, .. } => push_line(b"yes", &[bound_word, number(bound)], out),
+        Claim::Partial { bound, .. } => push_line(b"yes", &[bound_word, count_of(bound)], out),
         Claim::Infeasible => push_line(b"yes", &[Field::Word(b"infeasible")], out),
     }
-}
-
-/// A number as a field of a line.
-fn number(value: u64) -> Field<'static>
-    ensures { field_text result ≡ decimal value }
-{
-    Field::Number(i128::from(value))
 }

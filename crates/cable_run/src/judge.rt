@@ -2,7 +2,7 @@
 
 ghost use Rattle.std.specs.Prelude.{◌<◌, ℕ, List, All, length};
 ghost use Rattle.cable_definitions.specs.Answers.{legal_line, broken_line};
-ghost use Rattle.cable_text.specs.Stream.{Writes};
+ghost use Rattle.cable_definitions.specs.Stream.{Writes};
 ghost use Rattle.run_definitions.specs.Effect.{effect};
 ghost use Rattle.run_definitions.specs.Ends.{IsJudgement};
 ghost use Rattle.proof_text.specs.Cables.{HasNumbersOf};
@@ -11,11 +11,10 @@ ghost use Rattle.cable_run.specs.Steps.{JudgeGives};
 
 use crate::fault::Fault;
 use crate::layout::read_site_and_layout;
-use cable_text::{Failed, Field, Sink, Source, push_line};
+use cable_text::{Failed, Field, Sink, Source, count_of, push_line};
 use layout_meaning::{Layout, Rule, Verdict, judge as judge_layout};
 use run_definitions::ending::Ending;
 use site_model::Site;
-use site_text::name_of;
 use std::alloc::Global;
 
 /// Judges a layout by the rules, and answers in one line.
@@ -54,7 +53,7 @@ fn write_verdict<O: Sink>(
 fn write_legal<O: Sink>(cost: u64, out: &mut O) -> Result<(), Failed>
     ensures { Writes result (O.state out.old) (O.state out.new) (legal_line cost) }
 {
-    push_line(b"legal", &[Field::Number(i128::from(cost))], out)
+    push_line(b"legal", &[count_of(cost)], out)
 }
 
 /// Appends the first broken rule with its two points by name.
@@ -63,8 +62,7 @@ fn write_broken<O: Sink>(site: &Site, rule: Rule, a: u32, b: u32, out: &mut O) -
     requires second { b < length site.now.points }
     ensures { Writes result (O.state out.old) (O.state out.new) (broken_line site.now rule a b) }
 {
-    let points = site.points();
-    let first = Field::Word(name_of(points, a));
-    let second = Field::Word(name_of(points, b));
+    let first = Field::Word(site.name(a));
+    let second = Field::Word(site.name(b));
     push_line(b"broken", &[Field::Word(rule.word()), first, second], out)
 }

@@ -2,7 +2,7 @@
 
 ghost use Rattle.std.specs.Prelude.{◌≡◌, ◌≤◌, [], All, None, OnOk};
 ghost use Rattle.cable_definitions.specs.Refusal.{reader_at, AtJudged};
-ghost use Rattle.cable_text.specs.Stream.{FaultsRose, FaultsOnlyRise, IsAtEnd};
+ghost use Rattle.cable_definitions.specs.Stream.{FaultsRose, FaultsOnlyRise, IsAtEnd};
 ghost use Rattle.cable_text.specs.Lines.{ahead};
 ghost use Rattle.proof_text.specs.Reading.{RefusedAfter, IfRefused, IfRead};
 ghost use Rattle.proof_text.specs.Cables.{HasNumbersOf};
@@ -38,7 +38,7 @@ fn read_cables<S: Source>(
     input: &mut S,
     layout: &mut Layout,
 ) -> Result<(), ItemFault>
-    requires kept { lines.old.kept ≡ None }
+    requires no_fault { lines.old.fault ≡ None }
     requires empty { layout.old ≡ [] }
     ensures reads { OnOk result (ReadsToEnd site.now (ahead lines.old (S.state input.old)) layout.new) }
     ensures listed { OnOk result (All (HasNumbersOf site.now) layout.new) }

@@ -2,13 +2,13 @@
 
 ghost use Rattle.std.specs.Prelude.{◌≡◌, ◌⊎◌, ◌≤◌};
 ghost use Rattle.cable_definitions.specs.Answers.{usage_note, site_note, document_note, write_fault_note};
-ghost use Rattle.cable_text.specs.Stream.{Appends, Writes, FaultsOnlyRise};
+ghost use Rattle.cable_definitions.specs.Stream.{Appends, Writes, FaultsOnlyRise};
 ghost use Rattle.run_definitions.specs.Effect.{effect, Noted, NoteFailed};
 ghost use Rattle.cable_run.specs.Noted.{IsNoted, EndsAs};
 
 use crate::fault::Fault;
 use cable_definitions::claim::Refusal;
-use cable_text::{Failed, Field, Sink, push_line};
+use cable_text::{Failed, Field, Sink, count_of, push_line};
 use run_definitions::ending::Ending;
 use site_model::SiteCode;
 
@@ -73,7 +73,7 @@ fn write_site_note<E: Sink>(code: SiteCode, place: u64, note: &mut E) -> Result<
     ensures { Writes result (E.state note.old) (E.state note.new) (site_note code place) }
 {
     let refused = Field::Word(b"refused:");
-    let at = Field::Number(i128::from(place));
+    let at = count_of(place);
     push_line(
         b"site",
         &[refused, Field::Word(code.word()), Field::Word(b"at"), at],
@@ -86,7 +86,7 @@ fn write_document_note<E: Sink>(refusal: Refusal, note: &mut E) -> Result<(), Fa
     ensures { Writes result (E.state note.old) (E.state note.new) (document_note refusal.cause refusal.line) }
 {
     let refused = Field::Word(b"refused:");
-    let line = Field::Number(i128::from(refusal.line));
+    let line = count_of(refusal.line);
     push_line(
         b"document",
         &[

@@ -1,7 +1,7 @@
 -- What sources and sinks in memory do to their bytes.
 use Rattle.std.proofs.Common.{◌≡◌, ℕ, ◌-◌, ◌^◌, ◌≤◌, inl, inr, List, [], ◌++◌, length, take, drop, Some, Err, refl, sym, ◌∙◌, ap, arith}
 use Rattle.std.proofs.lemmas.List.{append-nil, take-append-drop, take_at, length-take-le}
-use Rattle.cable_text.specs.Stream.{Rose, Writes}
+use Rattle.cable_definitions.specs.Stream.{Rose, Writes}
 use Rattle.cable_text.specs.Memory.{SinkState, TakesPart, next_count}
 
 -- a count that goes one higher rose

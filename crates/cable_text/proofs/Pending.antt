@@ -5,7 +5,7 @@ use Rattle.std.proofs.lemmas.List.{drop-take, drop-drop, take_all, take_at, take
 use Rattle.std.proofs.lemmas.List.Elements.{All-more, All-append}
 use Rattle.std.proofs.lemmas.Bool.Decides.{nat_tests}
 use Rattle.cable_definitions.specs.Text.{HasNoNewline, LongLine}
-use Rattle.cable_text.specs.Stream.{GivesFront}
+use Rattle.cable_definitions.specs.Stream.{GivesFront}
 use Rattle.cable_text.specs.Lines.{BufferState, CutsLine, to_come, StandsNext}
 use borrow.Rule.Slice.PartMut.{put_mid}
 

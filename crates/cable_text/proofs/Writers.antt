@@ -3,7 +3,7 @@ use Rattle.std.proofs.Common.{◌≡◌, ℕ, List, [], ◌∷◌, ◌++◌, Res
 use Rattle.std.specs.List.{concat}
 use Rattle.std.proofs.lemmas.List.{append-nil}
 use Rattle.cable_text.specs.declared.stream.Failed.{Failed}
-use Rattle.cable_text.specs.Stream.{StreamState, Writes}
+use Rattle.cable_definitions.specs.Stream.{StreamState, Writes}
 use Rattle.cable_text.proofs.Writing.{Writes-stop, Writes-then}
 use Rattle.cable_definitions.specs.Text.{words, line}
 use Rattle.cable_text.specs.declared.line.Field.{Field}

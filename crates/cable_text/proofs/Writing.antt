@@ -1,7 +1,7 @@
 -- Writes one after another.
 use Rattle.std.proofs.Common.{◌≡◌, ℕ, ◌-◌, ◌^◌, ◌≤◌, inl, inr, List, [], ◌++◌, Option, Some, None, Result, Ok, Err, IsOk, refl, sym, ap, subst, append_assoc, arith}
 use Rattle.std.proofs.lemmas.List.{append-nil}
-use Rattle.cable_text.specs.Stream.{StreamState, Rose, FaultsRose, Appends, AppendsPrefix, Writes}
+use Rattle.cable_definitions.specs.Stream.{StreamState, Rose, FaultsRose, Appends, AppendsPrefix, Writes}
 
 -- a text and then another
 pub Appends-then : (a b c : Option (List ℕ)) (first second : List ℕ) → Appends a b first → Appends b c second → Appends a c (first ++ second)

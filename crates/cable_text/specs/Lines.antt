@@ -1,7 +1,7 @@
 -- Lines of the bytes of a source.
 use Rattle.std.specs.Prelude.{◌≡◌, ℕ, ◌+◌, ◌-◌, ◌^◌, ◌<◌, ◌≤◌, min, List, ◌∷◌, ◌++◌, length, slice_get, Option, Some, None, Result, Ok, Err}
 use Rattle.cable_definitions.specs.Text.{Piece, Whole, LongLine, CutLine, NoLine, IsNext, HasNoNewline}
-use Rattle.cable_text.specs.Stream.{StreamState, FaultsRose, IsAtEnd}
+use Rattle.cable_definitions.specs.Stream.{StreamState, FaultsRose, IsAtEnd}
 use Rattle.cable_text.specs.declared.fault.Line.{Line}
 use Rattle.cable_text.specs.declared.fault.Line.TheVariants.{Text, End}
 use Rattle.cable_text.specs.declared.fault.LineFault.{LineFault}
@@ -18,7 +18,7 @@ pub record LinesState : Type 0 where
   pub pending : List ℕ
   pub lines : ℕ
   pub number : ℕ
-  pub kept : Option LineFault
+  pub fault : Option LineFault
 
 -- the pending bytes began with the line and a newline
 pub record CutsLine (pending : List ℕ) (new : BufferState) : Type 0 where
@@ -69,16 +69,16 @@ pub record ReadsLine (old new : LinesState) (source_old source_new : StreamState
   pub piece : ReadsPiece (ahead old source_old) (ahead new source_new) new.text (FaultsRose source_old source_new) result
   pub number : new.number ≡ next_number old.lines
   pub lines : new.lines ≡ lines_after old.lines result
-  pub kept : new.kept ≡ fault_of result
+  pub fault : new.fault ≡ fault_of result
 
 -- a look at the next byte finds it and leaves it, or finds the end, or a count rose
 abbrev pub PeeksByte : LinesState → LinesState → StreamState → StreamState → Result (Option ℕ) LineFault → Type 0
 PeeksByte old new source_old source_new (Ok (Some b)) =
-    (slice_get new.pending 0 ≡ Some b) × (ahead new source_new ≡ ahead old source_old) × (new.number ≡ old.number) × (new.lines ≡ old.lines) × (new.kept ≡ None)
+    (slice_get new.pending 0 ≡ Some b) × (ahead new source_new ≡ ahead old source_old) × (new.number ≡ old.number) × (new.lines ≡ old.lines) × (new.fault ≡ None)
 PeeksByte old new source_old source_new (Ok None) =
-    IsAtEnd (ahead old source_old) × (ahead new source_new ≡ ahead old source_old) × (new.number ≡ old.number) × (new.lines ≡ old.lines) × (new.kept ≡ None)
+    IsAtEnd (ahead old source_old) × (ahead new source_new ≡ ahead old source_old) × (new.number ≡ old.number) × (new.lines ≡ old.lines) × (new.fault ≡ None)
 PeeksByte old new source_old source_new (Err fault) =
-    (fault ≡ Read) × FaultsRose source_old source_new × (new.number ≡ next_number old.lines) × (new.lines ≡ old.lines) × (new.kept ≡ Some Read)
+    (fault ≡ Read) × FaultsRose source_old source_new × (new.number ≡ next_number old.lines) × (new.lines ≡ old.lines) × (new.fault ≡ Some Read)
 
 -- these are all bytes to come, where they are told
 abbrev pub IsRest : Option (List ℕ) → List ℕ → Type 0

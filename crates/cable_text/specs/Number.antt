@@ -4,10 +4,6 @@ use Rattle.cable_definitions.specs.Numeral.{spelling}
 use Rattle.cable_text.specs.declared.number.Spelled.{Spelled}
 use Rattle.cable_text.specs.declared.number.Spelled.TheVariants.{Value, Beyond, Nothing}
 
--- the word spells the number
-abbrev pub Spells : List ℕ → ℤ → Type 0
-Spells word z = word ≡ spelling z
-
 -- the number lies outside the two ends
 abbrev pub LiesOutside : ℤ → ℤ → ℤ → Type 0
 LiesOutside least most z = (z <ℤ least) ⊎ (most <ℤ z)

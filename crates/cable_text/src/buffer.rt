@@ -1,6 +1,8 @@
+//! The bytes that were pulled from a source and aren't read yet, and the last line.
+
 ghost use Rattle.std.specs.Prelude.{◌≡◌, ◌≢◌, ℕ, ◌+◌, ◌-◌, ◌<◌, ◌≤◌, [], length, take, drop, slice_index, slice_get, IfOk, IfSome, IfNone, OnErr, OnOk, IsTrue, ◌++◌, List};
 ghost use Rattle.cable_definitions.specs.Text.{HasNoNewline};
-ghost use Rattle.cable_text.specs.Stream.{FaultsRose, FaultsOnlyRise, IsAtEnd};
+ghost use Rattle.cable_definitions.specs.Stream.{FaultsRose, FaultsOnlyRise, IsAtEnd};
 ghost use Rattle.std.specs.Bool.{OnTrue, OnFalse};
 ghost use Rattle.cable_text.specs.Lines.{to_come, CutsLine, ReadsPiece};
 

@@ -1,3 +1,5 @@
+//! What a call for a line or for the rest finds, and why it finds none.
+
 use thiserror::Error;
 
 /// What a call for the next line found: its text, or the end of the input.

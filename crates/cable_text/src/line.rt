@@ -5,7 +5,7 @@ ghost use Rattle.std.specs.List.{concat};
 ghost use Rattle.std.specs.Fmt.{decimal};
 ghost use Rattle.cable_definitions.specs.Text.{line};
 ghost use Rattle.cable_definitions.specs.Report.{left_in, right_in};
-ghost use Rattle.cable_text.specs.Stream.{Writes};
+ghost use Rattle.cable_definitions.specs.Stream.{Writes};
 ghost use Rattle.cable_text.specs.Fields.{field_text, spaced};
 
 use crate::line_buffer::LineBuffer;

@@ -1,7 +1,7 @@
 //! A line that is filled before it is written.
 
 ghost use Rattle.std.specs.Prelude.{◌≡◌, ◌≤◌, ◌+◌, ◌-◌, ◌^◌, ◌++◌, Some, length, IsOk, OnErr};
-ghost use Rattle.cable_text.specs.Stream.{Writes};
+ghost use Rattle.cable_definitions.specs.Stream.{Writes};
 
 use crate::memory::append;
 use crate::stream::{Failed, Sink};

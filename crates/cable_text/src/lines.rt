@@ -1,5 +1,7 @@
+//! The lines of a source, numbered, and the rest of it.
+
 ghost use Rattle.std.specs.Prelude.{◌≡◌, ℕ, ◌≤◌, [], length, Some, None, IfOk, IfSome, IfNone, IfErr, OnOk, ◌<◌};
-ghost use Rattle.cable_text.specs.Stream.{FaultsRose, FaultsOnlyRise, IsAtEnd};
+ghost use Rattle.cable_definitions.specs.Stream.{FaultsRose, FaultsOnlyRise, IsAtEnd};
 ghost use Rattle.cable_text.specs.Lines.{ahead, ReadsLine, PeeksByte, IsRest, IsLonger};
 
 use crate::buffer::Buffer;
@@ -16,7 +18,7 @@ pub struct Lines {
     buffer: Buffer,
     lines: u64,
     number: u64,
-    kept: Option<LineFault>,
+    fault: Option<LineFault>,
 }
 
 impl Model for Lines {
@@ -24,7 +26,7 @@ impl Model for Lines {
 
     ghost Value = { LinesState };
 
-    ghost view = { λ s. record { text = s.buffer.text; pending = s.buffer.pending; lines = s.lines; number = s.number; kept = s.kept } };
+    ghost view = { λ s. record { text = s.buffer.text; pending = s.buffer.pending; lines = s.lines; number = s.number; fault = s.fault } };
 }
 
 impl Lines {
@@ -34,13 +36,13 @@ impl Lines {
     ///
     /// `AllocError` where there is no memory for 4,097 bytes.
     pub fn new(alloc: Global) -> Result<Lines, AllocError>
-        ensures { IfOk result (λ s. s ≡ record { text = []; pending = []; lines = 0; number = 0; kept = None }) }
+        ensures { IfOk result (λ s. s ≡ record { text = []; pending = []; lines = 0; number = 0; fault = None }) }
     {
         Ok(Lines {
             buffer: Buffer::new(alloc)?,
             lines: 0,
             number: 0,
-            kept: None,
+            fault: None,
         })
     }
 
@@ -67,11 +69,11 @@ impl Lines {
     /// The fault that is kept, and then nothing changes; or `Read` where the source failed, which is
     /// kept.
     pub fn peek<S: Source>(&mut self, src: &mut S) -> Result<Option<u8>, LineFault>
-        ensures kept { IfSome self.old.kept (λ fault. (result ≡ Err fault) × (self.new ≡ self.old) × (src.new ≡ src.old)) }
-        ensures peeks { IfNone self.old.kept (PeeksByte self.old self.new (S.state src.old) (S.state src.new) result) }
+        ensures kept { IfSome self.old.fault (λ fault. (result ≡ Err fault) × (self.new ≡ self.old) × (src.new ≡ src.old)) }
+        ensures peeks { IfNone self.old.fault (PeeksByte self.old self.new (S.state src.old) (S.state src.new) result) }
         ensures count { FaultsOnlyRise (S.state src.old) (S.state src.new) }
     {
-        if let Some(fault) = self.kept {
+        if let Some(fault) = self.fault {
             return Err(fault);
         }
         match self.buffer.peek(src) {
@@ -79,7 +81,7 @@ impl Lines {
             Ok(None) => Ok(None),
             Err(_) => {
                 self.number = self.lines.saturating_add(1);
-                self.kept = Some(LineFault::Read);
+                self.fault = Some(LineFault::Read);
                 Err(LineFault::Read)
             }
         }
@@ -93,11 +95,11 @@ impl Lines {
     /// hold no newline, `NoNewline` where the input ends inside a line, `Read` where the source
     /// failed. The fault is kept.
     pub fn next<S: Source>(&mut self, src: &mut S) -> Result<Line, LineFault>
-        ensures kept { IfSome self.old.kept (λ fault. (result ≡ Err fault) × (self.new ≡ self.old) × (src.new ≡ src.old)) }
-        ensures reads { IfNone self.old.kept (ReadsLine self.old self.new (S.state src.old) (S.state src.new) result) }
+        ensures kept { IfSome self.old.fault (λ fault. (result ≡ Err fault) × (self.new ≡ self.old) × (src.new ≡ src.old)) }
+        ensures reads { IfNone self.old.fault (ReadsLine self.old self.new (S.state src.old) (S.state src.new) result) }
         ensures count { FaultsOnlyRise (S.state src.old) (S.state src.new) }
     {
-        if let Some(fault) = self.kept {
+        if let Some(fault) = self.fault {
             return Err(fault);
         }
         self.number = self.lines.saturating_add(1);
@@ -108,7 +110,7 @@ impl Lines {
             }
             Ok(Line::End) => Ok(Line::End),
             Err(fault) => {
-                self.kept = Some(fault);
+                self.fault = Some(fault);
                 Err(fault)
             }
         }
@@ -127,7 +129,7 @@ impl Lines {
         src: &mut S,
         most: usize,
     ) -> Result<Vec<u8>, RestFault>
-        requires { self.kept ≡ None }
+        requires { self.fault ≡ None }
         ensures bytes { IfOk result (λ v. IsRest (ahead self (S.state src.old)) v.items) }
         ensures within { IfOk result (λ v. length v.items ≤ most) }
         ensures end { OnOk result (IsAtEnd (S.state src.new).bytes) }

@@ -1,6 +1,8 @@
+//! Sources and sinks in memory, some calls of which fail.
+
 ghost use Rattle.std.specs.Prelude.{◌≡◌, ◌≢◌, ℕ, ◌<◌, ◌≤◌, ◌↔◌, [], List, Some, length, take, ◌+◌, ◌^◌, ◌++◌, IsTrue, IfOk, OnOk, OnErr};
 ghost use Rattle.std.specs.Bool.{OnTrue, OnFalse};
-ghost use Rattle.cable_text.specs.Stream.{Rose, GivesFront, IsAtEnd, StaysSilent, Writes};
+ghost use Rattle.cable_definitions.specs.Stream.{Rose, GivesFront, IsAtEnd, StaysSilent, Writes};
 ghost use Rattle.cable_text.specs.Memory.{FailsNext, FailsAsListed, GivesPiece, TakesAll, TakesPart};
 
 use crate::stream::{Failed, Sink, Source};
@@ -58,7 +60,7 @@ impl MemorySource {
 impl Source for MemorySource {
     ghost state = { λ s. record { bytes = Some s.left; faults = s.failed } };
 
-    /// GivesFront as many bytes as `piece`, `buf` and what is left allow.
+    /// Gives as many bytes as `piece`, `buf` and what is left allow.
     ///
     /// # Errors
     ///

@@ -1,6 +1,8 @@
+//! Numbers in words, read and written.
+
 ghost use Rattle.std.specs.Prelude.{◌≡◌, ◌≢◌, ℕ, ℤ, ◌+◌, ◌-◌, ◌^◌, ◌<◌, ◌≤◌, ◌≤ℤ◌, ◌∷◌, length, drop, slice_index, EachIndex, IfOk, IfErr, IfSome, IfNone, IsTrue, ◌↔◌};
 ghost use Rattle.cable_definitions.specs.Text.{number};
-ghost use Rattle.cable_text.specs.Stream.{Writes};
+ghost use Rattle.cable_definitions.specs.Stream.{Writes};
 ghost use Rattle.cable_definitions.specs.Numeral.{spelling, numeral};
 ghost use Rattle.cable_text.specs.Number.{LiesOutside, IsDigit, IsNumeral, IsSpelling, value_after};
 

@@ -1,5 +1,7 @@
+//! Sources and sinks over the readers and writers of std.
+
 ghost use Rattle.std.specs.Prelude.{◌≡◌, None};
-ghost use Rattle.cable_text.specs.Stream.{Writes};
+ghost use Rattle.cable_definitions.specs.Stream.{Writes};
 
 use crate::stream::{Failed, Sink, Source};
 use std::io::{Read, Write};

@@ -1,5 +1,7 @@
+//! Sources and sinks of bytes.
+
 ghost use Rattle.std.specs.Prelude.{◌≡◌, ℕ, ◌<◌, ◌≤◌, length, take, IfOk, OnErr};
-ghost use Rattle.cable_text.specs.Stream.{StreamState, FaultsRose, FaultsOnlyRise, GivesFront, IsAtEnd, StaysSilent, Writes};
+ghost use Rattle.cable_definitions.specs.Stream.{StreamState, FaultsRose, FaultsOnlyRise, GivesFront, IsAtEnd, StaysSilent, Writes};
 
 use thiserror::Error;
 

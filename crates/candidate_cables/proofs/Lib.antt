@@ -1,4 +1,6 @@
+-- the candidate arcs of a site, listed pair by pair
 pub mod Candidates
+-- the numbers of arcs in an ordered list, and the tables beside it
 pub mod Numbering
 -- for callers: the arcs of a site have the length and the charge of their pairs
 pub mod Measuring

@@ -1,3 +1,6 @@
+//! Documents in which something is changed, and how they are refused.
+
+use crate::cables::Cables;
 use run_support::{DOCUMENT, FORK, OPEN, run_on, wrong_answer, wrong_refusal};
 use std::alloc::AllocError;
 
@@ -53,7 +56,8 @@ const CHANGES: [(&str, &str, &str); 36] = [
 
 #[test]
 fn a_changed_document_is_refused(rt: HostRuntime) -> Result<(), AllocError> {
-    assert_eq!(rt; wrong_refusal(rt.alloc(), DOCUMENT, &CHANGES)?, None);
+    let wrong = wrong_refusal::<Cables>(rt.alloc(), DOCUMENT, &CHANGES)?;
+    assert_eq!(rt; wrong, None);
     Ok(())
 }
 
@@ -66,7 +70,8 @@ const BEHIND: [(&str, &str, &str); 3] = [
 
 #[test]
 fn nothing_follows_a_document(rt: HostRuntime) -> Result<(), AllocError> {
-    assert_eq!(rt; wrong_refusal(rt.alloc(), DOCUMENT, &BEHIND)?, None);
+    let wrong = wrong_refusal::<Cables>(rt.alloc(), DOCUMENT, &BEHIND)?;
+    assert_eq!(rt; wrong, None);
     Ok(())
 }
 
@@ -96,7 +101,8 @@ const DOCUMENTS: [(&str, u8, &str); 7] = [
 
 #[test]
 fn documents_are_judged_alone(rt: HostRuntime) -> Result<(), AllocError> {
-    assert_eq!(rt; wrong_answer(rt.alloc(), &["check"], &DOCUMENTS)?, None);
+    let wrong = wrong_answer::<Cables>(rt.alloc(), &["check"], &DOCUMENTS)?;
+    assert_eq!(rt; wrong, None);
     Ok(())
 }
 
@@ -128,7 +134,7 @@ const OPENED: [(&str, &str, &str); 12] = [
 
 #[test]
 fn a_part_is_judged_alone(rt: HostRuntime) -> Result<(), AllocError> {
-    assert_eq!(rt; wrong_refusal(rt.alloc(), OPEN, &OPENED)?, None);
+    assert_eq!(rt; wrong_refusal::<Cables>(rt.alloc(), OPEN, &OPENED)?, None);
     Ok(())
 }
 
@@ -154,7 +160,7 @@ fn reasons_are_tested(rt: HostRuntime) -> Result<(), AllocError> {
         document.push_str(
             "layout 3\ncable A S 0\ncable B A 0\ncable C A 0\ngap 2000 0\nend document\n",
         )?;
-        let check = run_on(alloc, &["check"], document.as_str())?;
+        let check = run_on::<Cables>(alloc, &["check"], document.as_str())?;
         assert_eq!(rt; check.status, status, "{works}");
     }
     Ok(())

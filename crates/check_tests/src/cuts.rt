@@ -1,16 +1,15 @@
 //! Plans that are cut, sites that differ in a byte, and many rows.
 
-use run_support::{DOCUMENT, FIRST, Ran, cause_of, ran_with, run_on, wrong_refusal};
+use crate::cables::Cables;
+use crate::reports::BENT;
+use run_support::{DOCUMENT, FIRST, cause_of, ran_with, run_on, wrong_refusal};
 use std::alloc::{AllocError, Global};
 
-/// Two turbines in strings mode, and a bend by which the second is joined.
-const BENDS: &str =
-    "site 1\nmode strings\ntype 100 1\ntype 200 3\nsubstation Harbour 0 0 2 500\nturbine Alpha 0 1000 100\nturbine Bravo 0 3000 100\nbend K 300 2000\nclosed Bravo Alpha\nclosed Bravo Harbour\nclosed K Harbour\nend site\n";
-
-/// Whether a check of the first bytes has refused them at the line that they end in.
-fn misses_line(alloc: Global, check: &Ran, bytes: &[u8]) -> Result<bool, AllocError> {
+/// Whether a check refuses these first bytes of a document at the line that they end in.
+pub(crate) fn misses_line(alloc: Global, bytes: &[u8]) -> Result<bool, AllocError> {
     let line = bytes.iter().filter(|byte| **byte == b'\n').count();
     let note = format!(in alloc; "document refused: Line at line {}\n", line as u64 + 1)?;
+    let check = ran_with::<Cables>(alloc, &["check"], bytes, &[], &[], &[])?;
     Ok(check.status == 6 && check.out.is_empty() && check.note.as_slice() == note.as_bytes())
 }
 
@@ -18,9 +17,7 @@ fn misses_line(alloc: Global, check: &Ran, bytes: &[u8]) -> Result<bool, AllocEr
 fn refused_fronts(alloc: Global, plan: &[u8]) -> Result<usize, AllocError> {
     let mut refused = 0usize;
     for end in 0..plan.len() {
-        let front = &plan[..end];
-        let check = ran_with(alloc, &["check"], front, &[], &[], &[])?;
-        if misses_line(alloc, &check, front)? {
+        if misses_line(alloc, &plan[..end])? {
             refused = refused.saturating_add(1);
         }
     }
@@ -30,7 +27,7 @@ fn refused_fronts(alloc: Global, plan: &[u8]) -> Result<usize, AllocError> {
 #[test]
 fn a_plan_that_is_cut_at_any_byte_is_refused_there(rt: HostRuntime) -> Result<(), AllocError> {
     let alloc = rt.alloc();
-    let plan = run_on(alloc, &["plan", "1023"], BENDS)?;
+    let plan = run_on::<Cables>(alloc, &["plan", "1023"], BENT)?;
     assert_eq!(rt; plan.status, 0);
     let refused = refused_fronts(alloc, plan.out.as_slice())?;
     assert_eq!(rt; refused, plan.out.len());
@@ -53,7 +50,8 @@ const BYTES: [(&str, &str, &str); 10] = [
 
 #[test]
 fn a_document_of_another_site_is_refused(rt: HostRuntime) -> Result<(), AllocError> {
-    assert_eq!(rt; wrong_refusal(rt.alloc(), DOCUMENT, &BYTES)?, None);
+    let wrong = wrong_refusal::<Cables>(rt.alloc(), DOCUMENT, &BYTES)?;
+    assert_eq!(rt; wrong, None);
     Ok(())
 }
 
@@ -71,10 +69,10 @@ fn rows(alloc: Global, count: u32) -> Result<Vec<u8>, AllocError> {
 fn a_document_has_at_most_16384_rows(rt: HostRuntime) -> Result<(), AllocError> {
     let alloc = rt.alloc();
     let most = rows(alloc, 16_384)?;
-    let check = ran_with(alloc, &["check"], most.as_slice(), &[], &[], &[])?;
+    let check = ran_with::<Cables>(alloc, &["check"], most.as_slice(), &[], &[], &[])?;
     assert!(rt; cause_of(check.note.as_slice()) == Some(b"Line at line 16392".as_slice()));
     let more = rows(alloc, 16_385)?;
-    let check = ran_with(alloc, &["check"], more.as_slice(), &[], &[], &[])?;
+    let check = ran_with::<Cables>(alloc, &["check"], more.as_slice(), &[], &[], &[])?;
     assert_eq!(rt; check.status, 6);
     assert!(rt; cause_of(check.note.as_slice()) == Some(b"Limit at line 16392".as_slice()));
     Ok(())

@@ -1,3 +1,6 @@
+//! Reports of plans and of documents that no plan wrote.
+
+use crate::cables::Cables;
 use crate::weights::BOUNDED;
 use run_support::{DOCUMENT, FIRST, OPEN, ran_with, run_on, wrong_answer};
 use std::alloc::AllocError;
@@ -7,7 +10,7 @@ const FIRST_REPORT: &str =
     "mode tree\ncable A                S                 0      500      100               50000\ntype 0 cables 1 length 500 cost 50000\nsubstation S feeders 1 of 4 power 100 of 10000\noptimal 50000\n";
 
 /// A string by a bend, with two types.
-const BENT: &str =
+pub(crate) const BENT: &str =
     "site 1\nmode strings\ntype 100 1\ntype 200 3\nsubstation Harbour 0 0 2 500\nturbine Alpha 0 1000 100\nturbine Bravo 0 3000 100\nbend K 300 2000\nclosed Bravo Alpha\nclosed Bravo Harbour\nclosed K Harbour\nend site\n";
 
 /// The report of its plan.
@@ -31,8 +34,8 @@ const REPORTS: [(&str, &str); 3] = [
 fn plans_are_reported(rt: HostRuntime) -> Result<(), AllocError> {
     let alloc = rt.alloc();
     for (site, text) in REPORTS {
-        let plan = run_on(alloc, &["plan", "1023"], site)?;
-        let report = ran_with(alloc, &["report"], plan.out.as_slice(), &[], &[], &[])?;
+        let plan = run_on::<Cables>(alloc, &["plan", "1023"], site)?;
+        let report = ran_with::<Cables>(alloc, &["report"], plan.out.as_slice(), &[], &[], &[])?;
         assert_eq!(rt; report.status, 0, "{site}");
         assert!(rt; report.out.as_slice() == text.as_bytes(), "{site}");
     }
@@ -46,7 +49,7 @@ fn what_is_refused_is_not_reported(rt: HostRuntime) -> Result<(), AllocError> {
         Some(cut) => cut,
         None => &[],
     };
-    let report = ran_with(alloc, &["report"], cut, &[], &[], &[])?;
+    let report = ran_with::<Cables>(alloc, &["report"], cut, &[], &[], &[])?;
     assert_eq!(rt; report.status, 6);
     assert!(rt; report.out.is_empty());
     assert!(rt; report.note.as_slice() == b"document refused: Line at line 18\n".as_slice());
@@ -66,6 +69,7 @@ const REPORTED: [(&str, u8, &str); 3] = [
 
 #[test]
 fn a_document_is_reported_whoever_wrote_it(rt: HostRuntime) -> Result<(), AllocError> {
-    assert_eq!(rt; wrong_answer(rt.alloc(), &["report"], &REPORTED)?, None);
+    let wrong = wrong_answer::<Cables>(rt.alloc(), &["report"], &REPORTED)?;
+    assert_eq!(rt; wrong, None);
     Ok(())
 }

@@ -1,5 +1,7 @@
 //! Documents with a row of a set.
 
+use crate::cables::Cables;
+use crate::cuts::misses_line;
 use run_support::{answers, ran_with, wrong_refusal};
 use std::alloc::{AllocError, Global};
 
@@ -53,13 +55,13 @@ const CHANGES: [(&str, &str, &str); 27] = [
 #[test]
 fn a_set_is_left_by_enough_cables(rt: HostRuntime) -> Result<(), AllocError> {
     let answer = "yes cost 2000 bound 2000\n";
-    assert!(rt; answers(rt.alloc(), &["check"], SET, 0, answer)?);
+    assert!(rt; answers::<Cables>(rt.alloc(), &["check"], SET, 0, answer)?);
     Ok(())
 }
 
 #[test]
 fn changed_sets_are_refused(rt: HostRuntime) -> Result<(), AllocError> {
-    assert_eq!(rt; wrong_refusal(rt.alloc(), SET, &CHANGES)?, None);
+    assert_eq!(rt; wrong_refusal::<Cables>(rt.alloc(), SET, &CHANGES)?, None);
     Ok(())
 }
 
@@ -73,18 +75,12 @@ fn first_lines(alloc: Global, text: &str, count: usize) -> Result<String, AllocE
     Ok(lines)
 }
 
-/// Whether a check of so many first lines of the set is refused since the next isn't there.
-fn misses_line(alloc: Global, count: usize) -> Result<bool, AllocError> {
-    let lines = first_lines(alloc, SET, count)?;
-    let line = count.saturating_add(1);
-    let note = format!(in alloc; "document refused: Line at line {line}\n")?;
-    answers(alloc, &["check"], lines.as_str(), 6, note.as_str())
-}
-
 #[test]
 fn a_document_has_all_its_lines(rt: HostRuntime) -> Result<(), AllocError> {
+    let alloc = rt.alloc();
     for count in 0..25u8 {
-        assert!(rt; misses_line(rt.alloc(), usize::from(count))?, "{count}");
+        let lines = first_lines(alloc, SET, usize::from(count))?;
+        assert!(rt; misses_line(alloc, lines.as_bytes())?, "{count}");
     }
     Ok(())
 }
@@ -93,7 +89,7 @@ fn a_document_has_all_its_lines(rt: HostRuntime) -> Result<(), AllocError> {
 fn a_missing_line_that_is_not_noted_is_a_write_fault(rt: HostRuntime) -> Result<(), AllocError> {
     let alloc = rt.alloc();
     let lines = first_lines(alloc, SET, 24)?;
-    let untold = ran_with(alloc, &["check"], lines.as_bytes(), &[], &[], &[1])?;
+    let untold = ran_with::<Cables>(alloc, &["check"], lines.as_bytes(), &[], &[], &[1])?;
     assert_eq!(rt; untold.status, 8);
     assert!(rt; untold.out.is_empty());
     Ok(())
@@ -103,7 +99,7 @@ fn a_missing_line_that_is_not_noted_is_a_write_fault(rt: HostRuntime) -> Result<
 fn a_set_that_is_not_read_to_its_end_is_a_read_fault(rt: HostRuntime) -> Result<(), AllocError> {
     let alloc = rt.alloc();
     for pull in 1..=(SET.len() / 16) as u64 {
-        let check = ran_with(alloc, &["check"], SET.as_bytes(), &[pull], &[], &[])?;
+        let check = ran_with::<Cables>(alloc, &["check"], SET.as_bytes(), &[pull], &[], &[])?;
         assert_eq!(rt; check.status, 7, "{pull}");
         assert!(rt; check.out.is_empty(), "{pull}");
     }

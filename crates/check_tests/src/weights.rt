@@ -1,3 +1,6 @@
+//! Documents with bounds by weights.
+
+use crate::cables::Cables;
 use run_support::{wrong_answer, wrong_refusal};
 use std::alloc::AllocError;
 
@@ -27,7 +30,8 @@ const BOUNDS: [(&str, u8, &str); 4] = [
 
 #[test]
 fn bounds_by_weights(rt: HostRuntime) -> Result<(), AllocError> {
-    assert_eq!(rt; wrong_answer(rt.alloc(), &["check"], &BOUNDS)?, None);
+    let wrong = wrong_answer::<Cables>(rt.alloc(), &["check"], &BOUNDS)?;
+    assert_eq!(rt; wrong, None);
     Ok(())
 }
 
@@ -70,6 +74,7 @@ const CHANGES: [(&str, &str, &str); 17] = [
 
 #[test]
 fn changed_weights_are_refused(rt: HostRuntime) -> Result<(), AllocError> {
-    assert_eq!(rt; wrong_refusal(rt.alloc(), WEIGHED, &CHANGES)?, None);
+    let wrong = wrong_refusal::<Cables>(rt.alloc(), WEIGHED, &CHANGES)?;
+    assert_eq!(rt; wrong, None);
     Ok(())
 }

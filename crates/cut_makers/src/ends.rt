@@ -7,22 +7,8 @@ ghost use Rattle.cut_makers.specs.Ends.{is_end, IsWaiting};
 
 use bound_shares::Shares;
 use candidate_cables::Arcs;
-use site_model::{Kind, Site};
+use site_model::Site;
 use std::marker::Model;
-
-/// Whether a turbine stands at a point.
-fn is_turbine(kind: Kind) -> bool
-    ensures { result ≡ is_turbine_of kind }
-{
-    matches!(kind, Kind::Turbine { .. })
-}
-
-/// Whether a substation stands at a point.
-fn is_substation(kind: Kind) -> bool
-    ensures { result ≡ is_substation_of kind }
-{
-    matches!(kind, Kind::Substation { .. })
-}
 
 /// Adds the shares of the arcs into a point to what their starts share with ends. The sums stay far below the greatest number, since each is of at
 /// most 255 shares of at most 2^20.
@@ -66,7 +52,7 @@ impl Ends {
             shared: [0; 256],
         };
         for p in 0..site.points().len() as u32 {
-            if is_substation(site.points()[p as usize].kind) {
+            if site.points()[p as usize].kind.is_substation() {
                 ends.add(arcs, shares, p);
             }
         }
@@ -101,7 +87,7 @@ impl Ends {
         if self.has(p) {
             return false;
         }
-        is_turbine(points[p as usize].kind)
+        points[p as usize].kind.is_turbine()
     }
 
     /// Of a turbine that was seen, if any, and another one the one that shares more with ends, or the first where they are even.

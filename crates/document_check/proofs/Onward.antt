@@ -16,7 +16,7 @@ use Rattle.cable_definitions.specs.Text.{line, item_lines, claim_line, Whole}
 use Rattle.cable_definitions.specs.Tree.{Item, RowItem, WorkItem, ProofState, empty_state, Accepts, Leads}
 use Rattle.cable_definitions.specs.Refusal.{DocLine, RowLine, WorkLine, WeightLine, ActLine, ClaimLine, RawClaim, act_from, row_from, Phase, AtBudget, AtItem, AtWeights, AtCables, AtLast, Reader, reader_at, IsFoundByFeeding, IsRowRefused, IsWorkRefused, IsClaimOf, IsClaimRefused, IsLeastCause, GoesOn, ReadsLines}
 use Rattle.cable_definitions.specs.declared.claim.Refusal.{Refusal}
-use Rattle.cable_text.specs.Stream.{GivesFront}
+use Rattle.cable_definitions.specs.Stream.{GivesFront}
 use Rattle.document_laws.proofs.Going.{claim-same, same_node, same_weights}
 use Rattle.document_laws.proofs.Spelled.{members-read}
 use Rattle.proof_text.specs.Reading.{line_number_after, ReadsTo, ReadsDocLine, RefusedAfter}

@@ -17,8 +17,8 @@ use Rattle.cable_definitions.specs.Text.{line, cable_line, claim_line}
 use Rattle.cable_definitions.specs.Tree.{Item, RowItem, WorkItem, ProofState, empty_state, Accepts, Agrees}
 use Rattle.cable_definitions.specs.Refusal.{BudgetLine, LayoutLine, EndLine, RawClaim, ClaimLine, AtBudget, AtItem, AtCables, AtLast, Past, Reader, reader_at, IsRowRefused, IsWorkRefused, IsClaimOf, IsClaimRefused}
 use Rattle.cable_definitions.specs.declared.claim.Refusal.{Refusal}
-use Rattle.bound_value.specs.declared.work.Work.{Work}
-use Rattle.cable_text.specs.Stream.{GivesFront, IsAtEnd}
+use Rattle.node_works.specs.declared.work.Work.{Work}
+use Rattle.cable_definitions.specs.Stream.{GivesFront, IsAtEnd}
 use Rattle.cable_text.specs.Lines.{to_come}
 use Rattle.cable_text.specs.declared.fault.LineFault.{LineFault}
 use Rattle.document_laws.proofs.ArcsOnce.{arcs-same}
@@ -34,8 +34,12 @@ use Rattle.document_check.specs.declared.document.DocumentFault.{DocumentFault}
 use Rattle.document_check.specs.declared.document.DocumentFault.TheVariants.{Refused, Read, Memory}
 use Rattle.document_check.specs.Behind.{IsAcceptedBehind}
 use Rattle.document_check.specs.Feeding.{fault_from, FeedsItems, FeedsToLayout, FeedsNext}
-use Rattle.document_check.specs.Progress.{HasCome, HasRead, IsRefusedFrom, ReadsOn, RefusesOn, OfRefusal, IfRefused, state, items_text, text_to_layout, cables_text}
+use Rattle.document_check.specs.Progress.{HasCome, HasRead, IsRefusedFrom, ReadsOn, RefusesOn, OfRefusal, IfRefused, state, items_text, text_to_layout}
 use Rattle.document_check.proofs.Onward.{from_of, come_first, read_on, refused_reading, row_on, row_refused, work_on, work_refused, claim_on, claim_refused}
+
+-- the text from the budget to the cables
+abbrev pub cables_text : Site → ℕ → ℕ → List Cable → List Item → List ℕ
+cables_text s n count cables items = text_to_layout n count items ++ concat (map (cable_line s) cables)
 
 -- ---- faults
 -- what holds where nothing was kept
@@ -90,26 +94,26 @@ row_there before after old new held next kind members e k m kept none h =
     (subst Q (sym k) (subst R (sym m) there.0), there.1)
 
 pub fed_row : (old new : CheckerState) (before after : Option (List ℕ)) (lines later : ℕ) (kind : RowKind) (members : List ℕ) → ReadsRow before after kind members × (later ≡ line_number_after lines 1)
-    → Accepts old.site old.arcs old.budget old.kept (RowItem (record { kind = kind; members = members })) new.kept
-    → ((cause : Cause) → ¬ (IsRowRefused old.site old.arcs old.kept (record { kind = kind; members = members }) cause)) → new ≡ record old { kept = new.kept }
+    → Accepts old.site old.arcs old.budget old.state (RowItem (record { kind = kind; members = members })) new.state
+    → ((cause : Cause) → ¬ (IsRowRefused old.site old.arcs old.state (record { kind = kind; members = members }) cause)) → new ≡ record old { state = new.state }
     → FeedsNext old new before after lines later None
 fed_row old new before after lines later kind members row accepts none stays = (
   record {
     state_is = stays;
-    reads = λ first start h. row_on old.site old.arcs first before after start lines later old.budget old.kept new.kept kind members h row.0 row.1 accepts none;
+    reads = λ first start h. row_on old.site old.arcs first before after start lines later old.budget old.state new.state kind members h row.0 row.1 accepts none;
   },
   let budget : new.budget ≡ old.budget = ap (λ (c : CheckerState). c.budget) stays in
-      let rows = ap length accepts.rows ∙ length-append old.kept.rows (record { kind = kind; members = members } ∷ []) in
+      let rows = ap length accepts.rows ∙ length-append old.state.rows (record { kind = kind; members = members } ∷ []) in
       let most = accepts.rows_count in
       let works = accepts.works in
       omega (arith, budget, rows, most, works),
 )
 
 pub refused_row : (old new : CheckerState) (before after : Option (List ℕ)) (lines later number line : ℕ) (kind : RowKind) (members : List ℕ) (refusal : Refusal) → ReadsRow before after kind members × (later ≡ line_number_after lines 1) → number ≡ later → line ≡ number
-    → Refuses old new line (IsRowRefused old.site old.arcs old.kept (record { kind = kind; members = members })) refusal
-    → RefusesOn old.site old.arcs before lines (state AtItem old.budget old.kept []) (items_text old.budget) refusal
+    → Refuses old new line (IsRowRefused old.site old.arcs old.state (record { kind = kind; members = members })) refusal
+    → RefusesOn old.site old.arcs before lines (state AtItem old.budget old.state []) (items_text old.budget) refusal
 refused_row old new before after lines later number line kind members refusal row e f h first start there =
-    row_refused old.site old.arcs first before after start lines old.budget old.kept kind members refusal there row.0 (h.line_is ∙ f ∙ e ∙ row.1) h.cause_is
+    row_refused old.site old.arcs first before after start lines old.budget old.state kind members refusal there row.0 (h.line_is ∙ f ∙ e ∙ row.1) h.cause_is
 
 -- ---- works
 pub work_there : (before after : Option (List ℕ)) (old new : ℕ) (held : ItemsState) (next : Next) (work : Work) → next ≡ NextWork → work ≡ held.work
@@ -121,26 +125,26 @@ work_there before after old new held next work e w kept none h =
     subst Q (sym w) (subst P e (at_none kept none h))
 
 pub fed_work : (old new : CheckerState) (before after : Option (List ℕ)) (lines later : ℕ) (work : Work) → ReadsWork before after work.node work.weights work.act × (later ≡ line_number_after lines (2 + length work.weights))
-    → Accepts old.site old.arcs old.budget old.kept (WorkItem work.node work.weights work.act) new.kept
-    → ((cause : Cause) → ¬ (IsWorkRefused old.site old.arcs old.budget old.kept work.node work.weights work.act cause)) → new ≡ record old { kept = new.kept }
+    → Accepts old.site old.arcs old.budget old.state (WorkItem work.node work.weights work.act) new.state
+    → ((cause : Cause) → ¬ (IsWorkRefused old.site old.arcs old.budget old.state work.node work.weights work.act cause)) → new ≡ record old { state = new.state }
     → FeedsNext old new before after lines later None
 fed_work old new before after lines later work read accepts none stays = (
   record {
     state_is = stays;
-    reads = λ first start h. work_on old.site old.arcs first before after start lines later old.budget old.kept new.kept work.node work.weights work.act h read.0 read.1 accepts none;
+    reads = λ first start h. work_on old.site old.arcs first before after start lines later old.budget old.state new.state work.node work.weights work.act h read.0 read.1 accepts none;
   },
   let budget : new.budget ≡ old.budget = ap (λ (c : CheckerState). c.budget) stays in
-      let rows : length new.kept.rows ≡ length old.kept.rows = ap length accepts.rows in
+      let rows : length new.state.rows ≡ length old.state.rows = ap length accepts.rows in
       let more = accepts.within_budget in
       let works = accepts.works in
       omega (arith, budget, rows, more, works),
 )
 
 pub refused_work : (old new : CheckerState) (before after : Option (List ℕ)) (lines later number line : ℕ) (work : Work) (refusal : Refusal) → ReadsWork before after work.node work.weights work.act × (later ≡ line_number_after lines (2 + length work.weights)) → number ≡ later
-    → line ≡ number → Refuses old new line (IsWorkRefused old.site old.arcs old.budget old.kept work.node work.weights work.act) refusal
-    → RefusesOn old.site old.arcs before lines (state AtItem old.budget old.kept []) (items_text old.budget) refusal
+    → line ≡ number → Refuses old new line (IsWorkRefused old.site old.arcs old.budget old.state work.node work.weights work.act) refusal
+    → RefusesOn old.site old.arcs before lines (state AtItem old.budget old.state []) (items_text old.budget) refusal
 refused_work old new before after lines later number line work refusal read e f h first start there =
-    work_refused old.site old.arcs first before after start lines old.budget old.kept work.node work.weights work.act refusal there read.0 (h.line_is ∙ f ∙ e ∙ read.1) h.cause_is
+    work_refused old.site old.arcs first before after start lines old.budget old.state work.node work.weights work.act refusal there read.0 (h.line_is ∙ f ∙ e ∙ read.1) h.cause_is
 
 -- ---- the line with the number of cables
 pub read_count : (c : CheckerState) (before after : Option (List ℕ)) (lines later : ℕ) (held : ItemsState) (next : Next) (count : ℕ) → next ≡ NextLayout count
@@ -149,19 +153,19 @@ read_count c before after lines later held next count e kept none h =
     let P : Next → Type 0 = λ x. ReadsNext before after lines later held (Ok x) in
     let there = subst P e (at_none kept none h) in
     let layout = there.0 in
-    let r = state AtItem c.budget c.kept [] in
+    let r = state AtItem c.budget c.state [] in
     record {
       state_is = refl;
       most = layout.most;
-      reads = λ first start come. read_on c.site c.arcs first before after start lines later AtItem (AtCables count) c.budget c.kept [] [] (items_text c.budget) (line (codes "layout" ∷ decimal count ∷ [])) (LayoutLine (pos count) ∷ []) come
-          (from_of c.site c.arcs r (state (AtCables count) c.budget c.kept []) before after (LayoutLine (pos count) ∷ []) (layout.reads c.site r refl)) layout.text there.1;
+      reads = λ first start come. read_on c.site c.arcs first before after start lines later AtItem (AtCables count) c.budget c.state [] [] (items_text c.budget) (line (codes "layout" ∷ decimal count ∷ [])) (LayoutLine (pos count) ∷ []) come
+          (from_of c.site c.arcs r (state (AtCables count) c.budget c.state []) before after (LayoutLine (pos count) ∷ []) (layout.reads c.site r refl)) layout.text there.1;
     }
 
 -- an item or the number of cables is refused by reading
 pub refused_item : (c : CheckerState) (before : Option (List ℕ)) (lines : ℕ) (refusal : Refusal) → ((s : Site) (r : Reader) → r.phase ≡ AtItem → RefusedAfter s r before lines refusal)
-    → RefusesOn c.site c.arcs before lines (state AtItem c.budget c.kept []) (items_text c.budget) refusal
+    → RefusesOn c.site c.arcs before lines (state AtItem c.budget c.state []) (items_text c.budget) refusal
 refused_item c before lines refusal d first start h =
-    let r = state AtItem c.budget c.kept [] in
+    let r = state AtItem c.budget c.state [] in
     refused_reading c.site c.arcs first before start lines r (items_text c.budget h.items) refusal h.come (d c.site r refl)
 
 -- ---- all items
@@ -189,38 +193,38 @@ layout_then old mid new before middle after a b c count h k =
     record { state_is = there.state_is; most = there.most; reads = λ first start come. there.reads first start (h.reads first start come) }
 
 pub refused_then : (old mid : CheckerState) (before middle : Option (List ℕ)) (a b : ℕ) (refusal : Refusal) → FeedsItems old mid before middle a b
-    → RefusesOn mid.site mid.arcs middle b (state AtItem mid.budget mid.kept []) (items_text mid.budget) refusal → RefusesOn old.site old.arcs before a (state AtItem old.budget old.kept []) (items_text old.budget) refusal
+    → RefusesOn mid.site mid.arcs middle b (state AtItem mid.budget mid.state []) (items_text mid.budget) refusal → RefusesOn old.site old.arcs before a (state AtItem old.budget old.state []) (items_text old.budget) refusal
 refused_then old mid before middle a b refusal h k =
-    let P : CheckerState → Type 0 = λ x. RefusesOn x.site x.arcs middle b (state AtItem x.budget x.kept []) (items_text x.budget) refusal in
+    let P : CheckerState → Type 0 = λ x. RefusesOn x.site x.arcs middle b (state AtItem x.budget x.state []) (items_text x.budget) refusal in
     let there = subst P h.state_is k in
     λ first start come. there first start (h.reads first start come)
 
-pub still_open : (old mid new : CheckerState) → old.refused ≡ None → mid ≡ record old { kept = mid.kept } → mid.refused ≡ None
+pub still_open : (old mid new : CheckerState) → old.refused ≡ None → mid ≡ record old { state = mid.state } → mid.refused ≡ None
 still_open old mid new e h = ap (λ (c : CheckerState). c.refused) h ∙ e
 
 -- ---- the claim
 pub judged : (s : Site) (c : CheckerState) (before after : Option (List ℕ)) (lines later : ℕ) (cables : List Cable) (claim : Claim) → IsValid s → c.site ≡ s
     → (raw : RawClaim) × IsClaimOf s raw claim × ((r : Reader) → r.phase ≡ AtCables 0 → ReadsDocLine s r before after (ClaimLine raw)) → GivesFront before after (claim_line s claim) → later ≡ line_number_after lines 1
-    → ((cause : Cause) → ¬ (IsClaimRefused c.site c.budget c.kept cables claim cause))
-    → (front : List Item → List ℕ) → ReadsOn s c.arcs before after lines later (state (AtCables 0) c.budget c.kept cables) (state AtLast c.budget c.kept cables) front (λ items. front items ++ claim_line s claim)
+    → ((cause : Cause) → ¬ (IsClaimRefused c.site c.budget c.state cables claim cause))
+    → (front : List Item → List ℕ) → ReadsOn s c.arcs before after lines later (state (AtCables 0) c.budget c.state cables) (state AtLast c.budget c.state cables) front (λ items. front items ++ claim_line s claim)
 judged s c before after lines later cables claim valid own read gives e none front first start h =
-    let P : Site → Type 0 = λ x. (cause : Cause) → ¬ (IsClaimRefused x c.budget c.kept cables claim cause) in
-    claim_on s c.arcs first before after start lines later c.budget c.kept cables front read.0 claim valid h read.1 (read.2 (state (AtCables 0) c.budget c.kept cables) refl) gives e (subst P own none)
+    let P : Site → Type 0 = λ x. (cause : Cause) → ¬ (IsClaimRefused x c.budget c.state cables claim cause) in
+    claim_on s c.arcs first before after start lines later c.budget c.state cables front read.0 claim valid h read.1 (read.2 (state (AtCables 0) c.budget c.state cables) refl) gives e (subst P own none)
 
 pub refused_claim : (s : Site) (c new : CheckerState) (before after : Option (List ℕ)) (lines later number line : ℕ) (cables : List Cable) (claim : Claim) (refusal : Refusal) → IsValid s → c.site ≡ s
     → (raw : RawClaim) × IsClaimOf s raw claim × ((r : Reader) → r.phase ≡ AtCables 0 → ReadsDocLine s r before after (ClaimLine raw)) → later ≡ line_number_after lines 1 → number ≡ later → line ≡ number
-    → Refuses c new line (IsClaimRefused c.site c.budget c.kept cables claim) refusal
-    → (front : List Item → List ℕ) → RefusesOn s c.arcs before lines (state (AtCables 0) c.budget c.kept cables) front refusal
+    → Refuses c new line (IsClaimRefused c.site c.budget c.state cables claim) refusal
+    → (front : List Item → List ℕ) → RefusesOn s c.arcs before lines (state (AtCables 0) c.budget c.state cables) front refusal
 refused_claim s c new before after lines later number line cables claim refusal valid own read e n f k front first start h =
-    let P : Site → Type 0 = λ x. Refuses c new line (IsClaimRefused x c.budget c.kept cables claim) refusal in
+    let P : Site → Type 0 = λ x. Refuses c new line (IsClaimRefused x c.budget c.state cables claim) refusal in
     let there = subst P own k in
-    claim_refused s c.arcs first before after start lines c.budget c.kept cables front read.0 claim refusal valid h read.1 (read.2 (state (AtCables 0) c.budget c.kept cables) refl) (there.line_is ∙ f ∙ n ∙ e) there.cause_is
+    claim_refused s c.arcs first before after start lines c.budget c.state cables front read.0 claim refusal valid h read.1 (read.2 (state (AtCables 0) c.budget c.state cables) refl) (there.line_is ∙ f ∙ n ∙ e) there.cause_is
 
 -- the verdict line is refused by reading
 pub refused_verdict : (s : Site) (c : CheckerState) (before : Option (List ℕ)) (lines : ℕ) (cables : List Cable) (refusal : Refusal) → ((x : Site) (r : Reader) → IsAtOf s (AtCables 0) x r → RefusedAfter x r before lines refusal)
-    → (front : List Item → List ℕ) → RefusesOn s c.arcs before lines (state (AtCables 0) c.budget c.kept cables) front refusal
+    → (front : List Item → List ℕ) → RefusesOn s c.arcs before lines (state (AtCables 0) c.budget c.state cables) front refusal
 refused_verdict s c before lines cables refusal d front first start h =
-    let r = state (AtCables 0) c.budget c.kept cables in
+    let r = state (AtCables 0) c.budget c.state cables in
     refused_reading s c.arcs first before start lines r (front h.items) refusal h.come (d s r (refl, refl))
 
 -- ---- the end of the document
@@ -274,7 +278,7 @@ accepted_end s arcs n count kept cables claim before after lines later first sta
       arcs = arcs;
       budget = n;
       items = last.items;
-      kept = kept;
+      state = kept;
       are_arcs = are;
       is_budget = budget;
       in_order = order;
@@ -305,18 +309,18 @@ of_refusal result fault refusal P e f h =
     subst Q same h
 
 pub items_refused : {A : Type 0} → (s : Site) (c : CheckerState) (before middle : Option (List ℕ)) (start lines : ℕ) (result : Result A DocumentFault) (fault : DocumentFault) (refusal : Refusal) → result ≡ Err fault → result ≡ Err (Refused refusal) → c.site ≡ s → AreArcs s c.arcs
-    → HasRead s c.arcs before middle start lines (state AtItem c.budget c.kept []) (items_text c.budget) → OfRefusal fault (RefusesOn c.site c.arcs middle lines (state AtItem c.budget c.kept []) (items_text c.budget))
+    → HasRead s c.arcs before middle start lines (state AtItem c.budget c.state []) (items_text c.budget) → OfRefusal fault (RefusesOn c.site c.arcs middle lines (state AtItem c.budget c.state []) (items_text c.budget))
     → (others : List CandidateArc) → AreArcs s others → IsRefusedFrom s others before start refusal
 items_refused s c before middle start lines result fault refusal e f own are h faulty others there =
-    let refused = of_refusal result fault refusal (RefusesOn c.site c.arcs middle lines (state AtItem c.budget c.kept []) (items_text c.budget)) e f faulty in
-    let P : Site → Type 0 = λ x. RefusesOn x c.arcs middle lines (state AtItem c.budget c.kept []) (items_text c.budget) refusal in
+    let refused = of_refusal result fault refusal (RefusesOn c.site c.arcs middle lines (state AtItem c.budget c.state []) (items_text c.budget)) e f faulty in
+    let P : Site → Type 0 = λ x. RefusesOn x c.arcs middle lines (state AtItem c.budget c.state []) (items_text c.budget) refusal in
     any_arcs s c.arcs before start refusal are (subst P own refused before start h) others there
 
 pub end_refused : {A : Type 0} → (s : Site) (c d : CheckerState) (before middle after : Option (List ℕ)) (start lines later count : ℕ) (result : Result A DocumentFault) (fault : DocumentFault) (refusal : Refusal) → result ≡ Err fault → result ≡ Err (Refused refusal) → c.site ≡ s → AreArcs s c.arcs
-    → HasRead s c.arcs before middle start lines (state AtItem c.budget c.kept []) (items_text c.budget) → FeedsToLayout c d middle after lines later count
-    → OfRefusal fault (RefusesOn s d.arcs after later (state (AtCables count) d.budget d.kept []) (text_to_layout d.budget count)) → (others : List CandidateArc) → AreArcs s others → IsRefusedFrom s others before start refusal
+    → HasRead s c.arcs before middle start lines (state AtItem c.budget c.state []) (items_text c.budget) → FeedsToLayout c d middle after lines later count
+    → OfRefusal fault (RefusesOn s d.arcs after later (state (AtCables count) d.budget d.state []) (text_to_layout d.budget count)) → (others : List CandidateArc) → AreArcs s others → IsRefusedFrom s others before start refusal
 end_refused s c d before middle after start lines later count result fault refusal e f own are h fed faulty others there =
-    let refused = of_refusal result fault refusal (RefusesOn s d.arcs after later (state (AtCables count) d.budget d.kept []) (text_to_layout d.budget count)) e f faulty in
-    let P : CheckerState → Type 0 = λ x. RefusesOn s x.arcs after later (state (AtCables count) x.budget x.kept []) (text_to_layout x.budget count) refusal in
-    let Q : Site → Type 0 = λ x. ReadsOn x c.arcs middle after lines later (state AtItem c.budget c.kept []) (state (AtCables count) c.budget d.kept []) (items_text c.budget) (text_to_layout c.budget count) in
+    let refused = of_refusal result fault refusal (RefusesOn s d.arcs after later (state (AtCables count) d.budget d.state []) (text_to_layout d.budget count)) e f faulty in
+    let P : CheckerState → Type 0 = λ x. RefusesOn s x.arcs after later (state (AtCables count) x.budget x.state []) (text_to_layout x.budget count) refusal in
+    let Q : Site → Type 0 = λ x. ReadsOn x c.arcs middle after lines later (state AtItem c.budget c.state []) (state (AtCables count) c.budget d.state []) (items_text c.budget) (text_to_layout c.budget count) in
     any_arcs s c.arcs before start refusal are (subst P fed.state_is refused before start (subst Q own fed.reads before start h)) others there

@@ -23,11 +23,11 @@ pub record IsAcceptedBehind (s : Site) (before : Option (List ℕ)) (cables : Li
   pub arcs : List Arc
   pub budget : ℕ
   pub items : List Item
-  pub kept : ProofState
+  pub state : ProofState
   pub are_arcs : AreArcs s arcs
   pub is_budget : IsBudget budget
   pub in_order : AllPairs (λ c d. c.from < d.from) cables
-  pub accepted : IsAccepted s arcs budget items kept
+  pub accepted : IsAccepted s arcs budget items state
   pub in_range : IsClaimInRange claim
-  pub agrees : Agrees s budget kept cables claim
+  pub agrees : Agrees s budget state cables claim
   pub text : (bytes : List ℕ) → before ≡ Some bytes → bytes ≡ text_behind s budget items cables claim

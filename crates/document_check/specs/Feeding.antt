@@ -15,18 +15,18 @@ fault_from ReadItem = Read
 
 -- how many rows and works may follow at most
 abbrev pub items_left : CheckerState → ℕ
-items_left c = (16384 - length c.kept.rows) + (c.budget - c.kept.works)
+items_left c = (16384 - length c.state.rows) + (c.budget - c.state.works)
 
 -- the checker keeps what further items leave behind, and nothing else of it changes
 pub record FeedsItems (old new : CheckerState) (before after : Option (List ℕ)) (lines_old lines_new : ℕ) : Type 0 where
-  pub state_is : new ≡ record old { kept = new.kept }
-  pub reads : ReadsOn old.site old.arcs before after lines_old lines_new (state AtItem old.budget old.kept []) (state AtItem old.budget new.kept []) (items_text old.budget) (items_text old.budget)
+  pub state_is : new ≡ record old { state = new.state }
+  pub reads : ReadsOn old.site old.arcs before after lines_old lines_new (state AtItem old.budget old.state []) (state AtItem old.budget new.state []) (items_text old.budget) (items_text old.budget)
 
 -- the same with the line `layout` behind the items
 pub record FeedsToLayout (old new : CheckerState) (before after : Option (List ℕ)) (lines_old lines_new count : ℕ) : Type 0 where
-  pub state_is : new ≡ record old { kept = new.kept }
+  pub state_is : new ≡ record old { state = new.state }
   pub most : count ≤ 256
-  pub reads : ReadsOn old.site old.arcs before after lines_old lines_new (state AtItem old.budget old.kept []) (state (AtCables count) old.budget new.kept []) (items_text old.budget) (text_to_layout old.budget count)
+  pub reads : ReadsOn old.site old.arcs before after lines_old lines_new (state AtItem old.budget old.state []) (state (AtCables count) old.budget new.state []) (items_text old.budget) (text_to_layout old.budget count)
 
 -- an item is fed, after which fewer may follow; or the line `layout` with this number is read
 abbrev pub FeedsNext : CheckerState → CheckerState → Option (List ℕ) → Option (List ℕ) → ℕ → ℕ → Option ℕ → Type 0

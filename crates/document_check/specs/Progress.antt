@@ -6,10 +6,10 @@ use Rattle.cable_definitions.specs.declared.cable.Cable.{Cable}
 use Rattle.cable_definitions.specs.declared.cable.Arc.{Arc as CandidateArc}
 use Rattle.cable_definitions.specs.Site.{Site}
 use Rattle.cable_definitions.specs.Tree.{Item, ProofState, IsAccepted}
-use Rattle.cable_definitions.specs.Text.{line, item_lines, cable_line}
+use Rattle.cable_definitions.specs.Text.{line, item_lines}
 use Rattle.cable_definitions.specs.Refusal.{DocLine, Phase, AtBudget, Reader, reader_at, ReadsLines, IsRefusedAfter}
 use Rattle.cable_definitions.specs.declared.claim.Refusal.{Refusal}
-use Rattle.cable_text.specs.Stream.{GivesFront}
+use Rattle.cable_definitions.specs.Stream.{GivesFront}
 use Rattle.proof_text.specs.Reading.{line_number_after}
 use Rattle.document_check.specs.declared.document.DocumentFault.{DocumentFault}
 use Rattle.document_check.specs.declared.document.DocumentFault.TheVariants.{Refused, Read, Memory}
@@ -60,10 +60,6 @@ items_text n items = line (codes "budget" ∷ decimal n ∷ []) ++ concat (map i
 -- behind that the number of cables
 abbrev pub text_to_layout : ℕ → ℕ → List Item → List ℕ
 text_to_layout n count items = items_text n items ++ line (codes "layout" ∷ decimal count ∷ [])
-
--- behind that the cables
-abbrev pub cables_text : Site → ℕ → ℕ → List Cable → List Item → List ℕ
-cables_text s n count cables items = text_to_layout n count items ++ concat (map (cable_line s) cables)
 
 -- ---- faults
 -- what holds of the refusal that is the fault, where it is one

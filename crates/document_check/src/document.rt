@@ -1,3 +1,5 @@
+//! A document behind its site, read and checked item by item up to its claim.
+
 ghost use Rattle.std.specs.Prelude.{◌≡◌, ℕ, ◌+◌, ◌<◌, ◌≤◌, ◌^◌, List, [], ◌++◌, Option, None, Some, Err, IfOk, OnOk};
 ghost use Rattle.cable_definitions.specs.declared.cable.Arc.{Arc as AnArc};
 ghost use Rattle.cable_definitions.specs.Arcs.{AreArcs};
@@ -7,7 +9,7 @@ ghost use Rattle.cable_definitions.specs.Refusal.{AtBudget, AtItem, AtCables, At
 ghost use Rattle.cable_definitions.specs.Text.{claim_line};
 ghost use Rattle.cable_definitions.specs.Tree.{Item, Agrees};
 ghost use Rattle.cable_definitions.specs.declared.claim.Refusal.{Refusal as AnyRefusal};
-ghost use Rattle.cable_text.specs.Stream.{FaultsRose, FaultsOnlyRise, IsAtEnd};
+ghost use Rattle.cable_definitions.specs.Stream.{FaultsRose, FaultsOnlyRise, IsAtEnd};
 ghost use Rattle.cable_text.specs.Lines.{ahead};
 ghost use Rattle.document_check.specs.Behind.{IsAcceptedBehind};
 ghost use Rattle.document_check.specs.Feeding.{FeedsNext, FeedsToLayout, fault_from};
@@ -58,16 +60,16 @@ fn begin_document<'a, S: Source>(
     lines: &mut Lines,
     src: &mut S,
 ) -> Result<Checker<'a>, DocumentFault>
-    requires readable { reader.old.kept ≡ None }
-    requires kept { lines.old.kept ≡ None }
+    requires readable { reader.old.fault ≡ None }
+    requires no_fault { lines.old.fault ≡ None }
     ensures site { IfOk result (λ checker. checker.site ≡ site.now) }
     ensures arcs { IfOk result (λ checker. AreArcs site.now checker.arcs) }
     ensures budget { IfOk result (λ checker. IsBudget checker.budget) }
     ensures open { IfOk result (λ checker. checker.refused ≡ None) }
     ensures reads { IfOk result (λ checker. HasRead site.now checker.arcs (ahead lines.old (S.state src.old)) (ahead lines.new (S.state src.new))
-        lines.old.lines lines.new.lines (state AtItem checker.budget checker.kept []) (items_text checker.budget)) }
-    ensures readable { OnOk result (reader.new.kept ≡ None) }
-    ensures kept { OnOk result (lines.new.kept ≡ None) }
+        lines.old.lines lines.new.lines (state AtItem checker.budget checker.state []) (items_text checker.budget)) }
+    ensures readable { OnOk result (reader.new.fault ≡ None) }
+    ensures no_fault { OnOk result (lines.new.fault ≡ None) }
     ensures refused { IfRefused result (λ refusal. (arcs : List AnArc) → IsRefusedFrom site.now arcs (ahead lines.old (S.state src.old)) lines.old.lines refusal) }
     ensures read { IfRead result (FaultsRose (S.state src.old) (S.state src.new)) }
     ensures count { FaultsOnlyRise (S.state src.old) (S.state src.new) }
@@ -90,13 +92,13 @@ fn feed_item<S: Source>(
     src: &mut S,
 ) -> Result<Option<u32>, DocumentFault>
     requires open { checker.old.refused ≡ None }
-    requires readable { reader.old.kept ≡ None }
-    requires kept { lines.old.kept ≡ None }
+    requires readable { reader.old.fault ≡ None }
+    requires no_fault { lines.old.fault ≡ None }
     ensures fed { IfOk result (FeedsNext checker.old checker.new (ahead lines.old (S.state src.old)) (ahead lines.new (S.state src.new)) lines.old.lines lines.new.lines) }
-    ensures readable { OnOk result (reader.new.kept ≡ None) }
-    ensures kept { OnOk result (lines.new.kept ≡ None) }
+    ensures readable { OnOk result (reader.new.fault ≡ None) }
+    ensures no_fault { OnOk result (lines.new.fault ≡ None) }
     ensures refused { IfRefused result (RefusesOn checker.old.site checker.old.arcs (ahead lines.old (S.state src.old)) lines.old.lines
-        (state AtItem checker.old.budget checker.old.kept []) (items_text checker.old.budget)) }
+        (state AtItem checker.old.budget checker.old.state []) (items_text checker.old.budget)) }
     ensures read { IfRead result (FaultsRose (S.state src.old) (S.state src.new)) }
     ensures count { FaultsOnlyRise (S.state src.old) (S.state src.new) }
 {
@@ -124,12 +126,12 @@ fn feed_items<S: Source>(
     src: &mut S,
 ) -> Result<u32, DocumentFault>
     requires open { checker.old.refused ≡ None }
-    requires readable { reader.old.kept ≡ None }
-    requires kept { lines.old.kept ≡ None }
+    requires readable { reader.old.fault ≡ None }
+    requires no_fault { lines.old.fault ≡ None }
     ensures fed { IfOk result (FeedsToLayout checker.old checker.new (ahead lines.old (S.state src.old)) (ahead lines.new (S.state src.new)) lines.old.lines lines.new.lines) }
-    ensures kept { OnOk result (lines.new.kept ≡ None) }
+    ensures no_fault { OnOk result (lines.new.fault ≡ None) }
     ensures refused { IfRefused result (RefusesOn checker.old.site checker.old.arcs (ahead lines.old (S.state src.old)) lines.old.lines
-        (state AtItem checker.old.budget checker.old.kept []) (items_text checker.old.budget)) }
+        (state AtItem checker.old.budget checker.old.state []) (items_text checker.old.budget)) }
     ensures read { IfRead result (FaultsRose (S.state src.old) (S.state src.new)) }
     ensures count { FaultsOnlyRise (S.state src.old) (S.state src.new) }
 {
@@ -152,15 +154,15 @@ fn judge_claim<S: Source>(
 ) -> Result<Claim, DocumentFault>
     requires own_site { checker.old.site ≡ site.now }
     requires open { checker.old.refused ≡ None }
-    requires kept { lines.old.kept ≡ None }
-    ensures agrees { IfOk result (Agrees site.now checker.old.budget checker.old.kept layout.now) }
+    requires no_fault { lines.old.fault ≡ None }
+    ensures agrees { IfOk result (Agrees site.now checker.old.budget checker.old.state layout.now) }
     ensures range { IfOk result IsClaimInRange }
     ensures reads { IfOk result (λ claim. (front : List Item → List ℕ) → ReadsOn site.now checker.old.arcs (ahead lines.old (S.state src.old)) (ahead lines.new (S.state src.new))
-        lines.old.lines lines.new.lines (state (AtCables 0) checker.old.budget checker.old.kept layout.now) (state AtLast checker.old.budget checker.old.kept layout.now)
+        lines.old.lines lines.new.lines (state (AtCables 0) checker.old.budget checker.old.state layout.now) (state AtLast checker.old.budget checker.old.state layout.now)
         front (λ items. front items ++ claim_line site.now claim)) }
-    ensures kept { OnOk result (lines.new.kept ≡ None) }
+    ensures no_fault { OnOk result (lines.new.fault ≡ None) }
     ensures refused { IfRefused result (λ refusal. (front : List Item → List ℕ) → RefusesOn site.now checker.old.arcs (ahead lines.old (S.state src.old)) lines.old.lines
-        (state (AtCables 0) checker.old.budget checker.old.kept layout.now) front refusal) }
+        (state (AtCables 0) checker.old.budget checker.old.state layout.now) front refusal) }
     ensures read { IfRead result (FaultsRose (S.state src.old) (S.state src.new)) }
     ensures count { FaultsOnlyRise (S.state src.old) (S.state src.new) }
 {
@@ -186,16 +188,16 @@ fn read_end_of_document<S: Source>(
 ) -> Result<Claim, DocumentFault>
     requires own_site { checker.old.site ≡ site.now }
     requires open { checker.old.refused ≡ None }
-    requires kept { lines.old.kept ≡ None }
+    requires no_fault { lines.old.fault ≡ None }
     requires empty { layout.old ≡ [] }
     requires most { count ≤ 256 }
     ensures accepted { IfOk result (λ claim. (first : Option (List ℕ)) (start : ℕ) → AreArcs site.now checker.old.arcs → IsBudget checker.old.budget
         → HasRead site.now checker.old.arcs first (ahead lines.old (S.state src.old)) start lines.old.lines
-        (state (AtCables count) checker.old.budget checker.old.kept []) (text_to_layout checker.old.budget count)
+        (state (AtCables count) checker.old.budget checker.old.state []) (text_to_layout checker.old.budget count)
         → IsAcceptedBehind site.now first layout.new claim) }
     ensures whole { OnOk result (IsAtEnd (ahead lines.new (S.state src.new))) }
     ensures refused { IfRefused result (RefusesOn site.now checker.old.arcs (ahead lines.old (S.state src.old)) lines.old.lines
-        (state (AtCables count) checker.old.budget checker.old.kept []) (text_to_layout checker.old.budget count)) }
+        (state (AtCables count) checker.old.budget checker.old.state []) (text_to_layout checker.old.budget count)) }
     ensures read { IfRead result (FaultsRose (S.state src.old) (S.state src.new)) }
     ensures count { FaultsOnlyRise (S.state src.old) (S.state src.new) }
 {
@@ -224,7 +226,7 @@ pub fn read_document<S: Source>(
     lines: &mut Lines,
     src: &mut S,
 ) -> Result<Accepted, DocumentFault>
-    requires { lines.old.kept ≡ None }
+    requires { lines.old.fault ≡ None }
     ensures accepted { IfOk result (λ d. IsAcceptedBehind site.now (ahead lines.old (S.state src.old)) d.layout d.claim) }
     ensures whole { OnOk result (IsAtEnd (S.state src.new).bytes) }
     // Line numbers are counted up to 2^64 - 1; a document that is refused has fewer than 60,000,000 lines

@@ -1,4 +1,4 @@
-//! Documents read and checked, item by item.
+//! Documents read and checked, item by item, as certificates: whoever made one need not be trusted.
 #![tactic(auto)]
 
 mod document;

@@ -22,7 +22,7 @@ use Rattle.cable_definitions.specs.Items.{RawItem, AnObstacle, ACorner, TheEnd, 
 use Rattle.cable_definitions.specs.Drill.{IsPlaceAt}
 use Rattle.site_model.specs.declared.fault.BuildFault.{BuildFault}
 use Rattle.site_model.specs.declared.fault.BuildFault.TheVariants.{Refused}
-use Rattle.site_model.specs.declared.builder.RawKind.{RawKind}
+use Rattle.site_model.specs.declared.raw.RawKind.{RawKind}
 use Rattle.site_model.specs.Building.{type_item, point_item, kind_item}
 use Rattle.site_model.specs.Drafts.{item_of_type}
 use Rattle.site_model.proofs.Ranges.{IsWithin-some}

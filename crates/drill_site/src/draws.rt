@@ -1,3 +1,5 @@
+//! Numbers drawn from a state, the same each time.
+
 ghost use Rattle.std.specs.Prelude.{◌≡◌, ◌≤◌};
 ghost use Rattle.cable_definitions.specs.Drill.{next_state, draw};
 

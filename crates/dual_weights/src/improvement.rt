@@ -1,3 +1,5 @@
+//! Better weights of a node, with the shares of its arcs.
+
 ghost use Rattle.std.specs.Prelude.{◌≡◌, ◌≤◌, ◌^◌, ℕ, ℤ, ◌≤ℤ◌, length, IfOk, All};
 ghost use Rattle.cable_definitions.specs.Arcs.{AreArcs};
 ghost use Rattle.cable_definitions.specs.Choice.{AreLawful, IsValue};
@@ -6,9 +8,10 @@ ghost use Rattle.dual_weights.specs.Worth.{AreWorth};
 
 use crate::steps::Dual;
 use bound_shares::Shares;
-use bound_value::{Decisions, Weights, lawful, weigh};
+use bound_value::{lawful, weigh};
 use cable_rows::RowPool;
 use candidate_cables::Arcs;
+use node_works::{Decisions, Weights};
 use row_lifts::{copied, lift_all};
 use site_model::Site;
 use std::alloc::{AllocError, Global};

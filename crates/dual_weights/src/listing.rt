@@ -6,9 +6,9 @@ use crate::rows::MOST_WEIGHT;
 use crate::steps::Dual;
 use crate::value::least_free;
 use bound_shares::Shares;
-use bound_value::Weights;
 use cable_definitions::row::RowKind;
 use cable_rows::RowPool;
+use node_works::Weights;
 
 /// The greatest share.
 const WHOLE: i64 = 1_048_576;

@@ -2,8 +2,8 @@
 
 ghost use Rattle.std.specs.Prelude.{◌<◌, length};
 
-use bound_value::{Decisions, Mark};
 use candidate_cables::Arcs;
+use node_works::{Decisions, Mark};
 use site_model::{CableType, Kind, Site};
 use std::alloc::{AllocError, Global};
 
@@ -178,15 +178,12 @@ fn link_of(arcs: &Arcs, number: u32, is_used: bool, rate: u64) -> Link {
 
 /// A point without its links.
 fn spot_of(p: u32, kind: Kind, is_marked: bool, first: usize) -> Spot {
-    let (is_turbine, least) = match kind {
-        Kind::Turbine { power } => (true, power),
-        _ => (false, 1),
-    };
+    let is_turbine = kind.is_turbine();
     Spot {
         at: point_number(p),
         is_turbine,
         is_fixed: is_turbine && is_marked,
-        least: i64::from(least),
+        least: i64::from(kind.least_load()),
         first,
         past: first,
         rest: first,
@@ -231,8 +228,7 @@ impl Node {
         let (first, past) = arcs.out_of(p);
         let kind = site.points()[p as usize].kind;
         let mut spot = spot_of(p, kind, has_used(marks, first, past), self.links.len());
-        let load = least_load(kind);
-        let rate = least_rate(site.types(), load);
+        let rate = least_rate(site.types(), kind.least_load());
         add_links(&mut self.links, arcs, marks, &spot, first, past, rate)?;
         spot.past = self.links.len();
         add_idle_links(&mut self.links, arcs, marks, &spot, first, past, rate)?;
@@ -249,14 +245,6 @@ impl Node {
             }
         }
         true
-    }
-}
-
-/// The least load out of a point, in power units.
-fn least_load(kind: Kind) -> u32 {
-    match kind {
-        Kind::Turbine { power } => power,
-        _ => 1,
     }
 }
 

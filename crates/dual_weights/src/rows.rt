@@ -3,9 +3,9 @@
 ghost use Rattle.std.specs.Prelude.{◌<◌, length};
 
 use crate::node::point_number;
-use bound_value::Weights;
 use cable_definitions::row::RowKind;
 use cable_rows::RowPool;
+use node_works::Weights;
 use site_model::Site;
 use std::alloc::{AllocError, Global};
 

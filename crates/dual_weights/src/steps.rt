@@ -5,9 +5,9 @@ use crate::gaps::{Sums, find_gaps, no_sums};
 use crate::node::{Link, Node, Spot};
 use crate::rows::{DualRow, MOST_WEIGHT, dual_rows, is_on_load, is_on_set};
 use crate::value::{Pick, PointWeights, SetBits, fill_extras, no_weights, places_of, value_of};
-use bound_value::{Decisions, Weights};
 use cable_rows::RowPool;
 use candidate_cables::Arcs;
+use node_works::{Decisions, Weights};
 use site_model::{CableType, Site};
 use std::alloc::{AllocError, Global};
 

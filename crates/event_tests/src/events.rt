@@ -1,15 +1,18 @@
+//! Lanes that are told what to do, and layouts that are found between.
+
 ghost use Rattle.std.specs.Prelude.{◌≡◌, length, IfOk, IfSome, OnOk};
 ghost use Rattle.cable_definitions.specs.Arcs.{AreArcs};
 ghost use Rattle.cable_definitions.specs.Layout.{IsLegal};
-ghost use Rattle.stored_makers.specs.Makers.{AreShares, IsSoundRow, row_made};
+ghost use Rattle.cable_rows.specs.Made.{row_made};
+ghost use Rattle.stored_makers.specs.Makers.{AreShares, IsSoundRow};
 ghost use Rattle.stored_makers.specs.Choosers.{AreBeside, IsFreeChoice};
 ghost use Rattle.search_core.specs.State.{IsRunning};
 
 use bound_shares::Shares;
-use bound_value::{Decisions, Mark};
 use cable_rows::{Row, RowKind, RowPool, row_form};
 use candidate_cables::Arcs;
 use layout_meaning::{Cable, Layout, Verdict, judge};
+use node_works::{Decisions, Mark};
 use sample_sites::{FORK, site_of};
 use search_core::{Ended, Event, Search, Step};
 use site_model::Site;

@@ -21,7 +21,7 @@ use Rattle.proof_laws.proofs.Lists.{all_from}
 use Rattle.intree_floor.specs.declared.weights.SetWeight.{SetWeight}
 use Rattle.intree_floor.specs.Weights.{leaves, IsTurbineSet, AreSetWeights}
 use Rattle.intree_floor.proofs.Duality.{left-by}
-use Rattle.floor_rows.specs.Listed.{HasRoom, ListsSets, cut_row, rows_of, weights_of, AreSmallSets}
+use Rattle.floor_rows.specs.Listed.{HasRoom, ListsSets, cut_row, set_rows, weights_of, AreSmallSets}
 use Rattle.floor_rows.proofs.Sets.{set-count, set-formed}
 
 -- ---- one more set
@@ -43,15 +43,15 @@ set-more sets i w e = take_more sets i no_set (slice_get_within sets i w e) ∙ 
 
 -- the row of one set more
 pub rows-more : (old : List Row) (sets : List SetWeight) (i : ℕ) (w : SetWeight) → slice_get sets i ≡ Some w
-    → (old ++ rows_of (take i sets)) ++ cut_row w.members ∷ [] ≡ old ++ rows_of (take (i + 1) sets)
+    → (old ++ set_rows (take i sets)) ++ cut_row w.members ∷ [] ≡ old ++ set_rows (take (i + 1) sets)
 rows-more old sets i w e =
-    append_assoc old (rows_of (take i sets)) (cut_row w.members ∷ [])
+    append_assoc old (set_rows (take i sets)) (cut_row w.members ∷ [])
     ∙ ap (λ (rows : List Row). old ++ rows)
-    (sym (ap rows_of (set-more sets i w e) ∙ map-append (λ (v : SetWeight). cut_row v.members) (take i sets) (w ∷ [])))
+    (sym (ap set_rows (set-more sets i w e) ∙ map-append (λ (v : SetWeight). cut_row v.members) (take i sets) (w ∷ [])))
 
 -- its number
-pub rows-count : (old : List Row) (sets : List SetWeight) → length (old ++ rows_of sets) ≡ length old + length sets
-rows-count old sets = length-append old (rows_of sets) ∙ ap (λ (k : ℕ). length old + k) (length-map sets (λ (v : SetWeight). cut_row v.members))
+pub rows-count : (old : List Row) (sets : List SetWeight) → length (old ++ set_rows sets) ≡ length old + length sets
+rows-count old sets = length-append old (set_rows sets) ∙ ap (λ (k : ℕ). length old + k) (length-map sets (λ (v : SetWeight). cut_row v.members))
 
 -- its weight
 pub weights-more : (n : ℕ) (sets : List SetWeight) (i : ℕ) (w : SetWeight) → slice_get sets i ≡ Some w
@@ -85,17 +85,17 @@ take-count sets i l = length-take-le i sets (omega (arith, l))
 
 -- ---- how many rows and members there are
 -- members of the rows of sets
-members-most : (s : Site) (sets : List SetWeight) → IsValid s → All (λ w. IsTurbineSet s w.members) sets → sum_by (λ (r : Row). length r.members) (rows_of sets) ≤ 256 * length sets
+members-most : (s : Site) (sets : List SetWeight) → IsValid s → All (λ w. IsTurbineSet s w.members) sets → sum_by (λ (r : Row). length r.members) (set_rows sets) ≤ 256 * length sets
 members-most s [] valid are = omega arith
 members-most s (w ∷ sets) valid are =
     let here = set-count s w.members (are 0 no_set (omega arith)) in
     let most = valid.points_count in
     let rest = members-most s sets valid (λ i d l. are (suc i) d (omega (arith, l))) in
-    omega (arith, here, most, rest, sum_by-cons (λ (r : Row). length r.members) (cut_row w.members) (rows_of sets))
+    omega (arith, here, most, rest, sum_by-cons (λ (r : Row). length r.members) (cut_row w.members) (set_rows sets))
 
 -- there is room for each further row
 pub rows-room : (s : Site) (old : List Row) (sets : List SetWeight) (i : ℕ) → IsValid s → HasRoom old → AreSmallSets s sets → i ≤ length sets
-    → (length (old ++ rows_of (take i sets)) < 16384) × (sum_by (λ (r : Row). length r.members) (old ++ rows_of (take i sets)) ≤ 1048320)
+    → (length (old ++ set_rows (take i sets)) < 16384) × (sum_by (λ (r : Row). length r.members) (old ++ set_rows (take i sets)) ≤ 1048320)
 rows-room s old sets i valid room small l =
     let few = small.few in
     let rows = room.rows_count in
@@ -103,7 +103,7 @@ rows-room s old sets i valid room small l =
     let count = rows-count old (take i sets) in
     let length_is = taken sets i in
     let most = members-most s (take i sets) valid (part sets i small.are_sets) in
-    let sum = sum_by-append (λ (r : Row). length r.members) old (rows_of (take i sets)) in
+    let sum = sum_by-append (λ (r : Row). length r.members) old (set_rows (take i sets)) in
     (omega (arith, few, rows, count, length_is, l), omega (arith, few, members, most, sum, length_is, l))
   where
     taken : (xs : List SetWeight) (k : ℕ) → length (take k xs) ≤ length xs
@@ -116,9 +116,9 @@ rows-room s old sets i valid room small l =
     part xs k are = All-take (λ (w : SetWeight). IsTurbineSet s w.members) k xs are
 
 -- the rows of sets of turbines, as they are listed
-pub sets-listed : (s : Site) (arcs : List Arc) (old : List Row) (sets : List SetWeight) → IsValid s → AreSmallSets s sets → ListsSets s arcs old (old ++ rows_of sets)
+pub sets-listed : (s : Site) (arcs : List Arc) (old : List Row) (sets : List SetWeight) → IsValid s → AreSmallSets s sets → ListsSets s arcs old (old ++ set_rows sets)
 sets-listed s arcs old sets valid small = record {
-  rows = rows_of sets;
+  rows = set_rows sets;
   listed = refl;
   well_formed = All-map (IsWellFormed s arcs) (λ (w : SetWeight). cut_row w.members) sets (λ i d l. set-formed s arcs (get_or sets i d).members valid (small.are_sets i d l));
   rows_count = (let few = small.few in let count = length-map sets (λ (w : SetWeight). cut_row w.members) in omega (arith, few, count));
@@ -166,7 +166,7 @@ weight-at n (w ∷ sets) (suc i) v e =
     (r.0, r.1, r.2 ∙ (let q : n + 1 + i ≡ n + suc i = omega arith in q), r.3)
 
 -- the weights of the rows of such sets are lawful
-pub sets-lawful : (s : Site) (old : List Row) (sets : List SetWeight) → AreSmallSets s sets → All (λ w. 1 ≤ w.weight) sets → AreLawful (old ++ rows_of sets) (weights_of (length old) sets)
+pub sets-lawful : (s : Site) (old : List Row) (sets : List SetWeight) → AreSmallSets s sets → All (λ w. 1 ≤ w.weight) sets → AreLawful (old ++ set_rows sets) (weights_of (length old) sets)
 sets-lawful s old sets small some = record {
   ascending = λ i j d l h.
       let a = at i d (omega (arith, l, h)) in

@@ -27,7 +27,7 @@ use Rattle.intree_floor.specs.declared.weights.SetWeight.{SetWeight}
 use Rattle.intree_floor.specs.Weights.{leaves, weight_left, total_weight, IsTurbineSet, AreSetWeights, IsShut}
 use Rattle.intree_floor.specs.Floors.{IsLeastTree, HasNoTree}
 use Rattle.intree_floor.proofs.Holding.{candidate-turbine}
-use Rattle.floor_rows.specs.Listed.{ListsSets, cut_row, rows_of, weights_of}
+use Rattle.floor_rows.specs.Listed.{ListsSets, cut_row, set_rows, weights_of}
 use Rattle.floor_rows.specs.Reached.{IsNeverMet, ReachFloor}
 use Rattle.floor_rows.proofs.Sets.{set-power, set-right}
 use Rattle.floor_rows.proofs.Adding.{sets-small, sets-listed, set-listed, sets-lawful, none-lawful, weights-count}
@@ -37,9 +37,9 @@ abbrev StandFrom : List Row → ℕ → List SetWeight → Type 0
 StandFrom rows n sets = (i : ℕ) (w : SetWeight) → slice_get sets i ≡ Some w → slice_get rows (n + i) ≡ Some (cut_row w.members)
 
 -- as they do where they are listed behind others
-listed-stand : (old : List Row) (sets : List SetWeight) → StandFrom (old ++ rows_of sets) (length old) sets
+listed-stand : (old : List Row) (sets : List SetWeight) → StandFrom (old ++ set_rows sets) (length old) sets
 listed-stand old sets i w e =
-    append_right old (rows_of sets) i ∙ slice_get-map (λ (v : SetWeight). cut_row v.members) sets i ∙ ap (option_map (λ (v : SetWeight). cut_row v.members)) e
+    append_right old (set_rows sets) i ∙ slice_get-map (λ (v : SetWeight). cut_row v.members) sets i ∙ ap (option_map (λ (v : SetWeight). cut_row v.members)) e
 
 -- a weighted sum over these rows is one over the sets
 weighted-sets : (f : Row → ℤ) (rows : List Row) (n : ℕ) (sets : List SetWeight) → StandFrom rows n sets
@@ -150,10 +150,10 @@ value-sets s arcs rows n sets total marks value valid none are weights stand is 
 
 -- the rows of the sets of the floor reach it
 pub sets-reach : (s : Site) (arcs : List Arc) (old : List Row) (tree : List ℕ) (sets : List SetWeight) (total : ℕ) → IsValid s → HasNoBends s → AreArcs s arcs → IsLeastTree s arcs tree sets total
-    → ReachFloor s arcs (old ++ rows_of sets) (weights_of (length old) sets)
+    → ReachFloor s arcs (old ++ set_rows sets) (weights_of (length old) sets)
 sets-reach s arcs old tree sets total valid none are floor = record {
   in_tree = λ least f marks value is.
-      let reached = value-sets s arcs (old ++ rows_of sets) (length old) sets total marks value valid none are floor.weights (listed-stand old sets) is in
+      let reached = value-sets s arcs (old ++ set_rows sets) (length old) sets total marks value valid none are floor.weights (listed-stand old sets) is in
       let no_less = f.no_less floor.least.tree floor.least.is_tree in
       let cost = floor.least.reached in
       let under : least ≤ total = omega (arith, no_less, cost) in
@@ -195,7 +195,7 @@ pub record IsDone (s : Site) (arcs : List Arc) (old new : List Row) (weights : L
 
 -- the sets of the floor are listed
 pub sets-done : (s : Site) (arcs : List Arc) (old : List Row) (tree : List ℕ) (sets : List SetWeight) (total : ℕ) → IsValid s → HasNoBends s → AreArcs s arcs → IsLeastTree s arcs tree sets total
-    → IsDone s arcs old (old ++ rows_of sets) (weights_of (length old) sets)
+    → IsDone s arcs old (old ++ set_rows sets) (weights_of (length old) sets)
 sets-done s arcs old tree sets total valid none are floor =
     let small = sets-small s sets total floor.least.tree valid floor.weights floor.least.is_tree floor.few in
     record {

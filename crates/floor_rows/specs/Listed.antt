@@ -26,8 +26,8 @@ abbrev pub cut_row : List ℕ → Row
 cut_row members = record { kind = Cut; members = members }
 
 -- the rows of weighed sets
-abbrev pub rows_of : List SetWeight → List Row
-rows_of sets = map (λ w. cut_row w.members) sets
+abbrev pub set_rows : List SetWeight → List Row
+set_rows sets = map (λ w. cut_row w.members) sets
 
 -- the weights of these rows, whose numbers begin at n
 abbrev pub weights_of : ℕ → List SetWeight → List (ℕ × ℤ)

@@ -6,13 +6,13 @@ ghost use Rattle.cable_definitions.specs.Choice.{AreLawful};
 ghost use Rattle.cable_definitions.specs.InTree.{HasNoBends};
 ghost use Rattle.site_model.specs.Best.{most_cost};
 ghost use Rattle.intree_floor.specs.Weights.{IsTurbineSet};
-ghost use Rattle.floor_rows.specs.Listed.{HasRoom, ListsSets, cut_row, rows_of, weights_of, AreSmallSets};
+ghost use Rattle.floor_rows.specs.Listed.{HasRoom, ListsSets, cut_row, set_rows, weights_of, AreSmallSets};
 ghost use Rattle.floor_rows.specs.Reached.{ReachFloor};
 
-use bound_value::Weights;
 use cable_rows::{RowKind, RowPool};
 use candidate_cables::Arcs;
 use intree_floor::{Floor, SetWeight, floor};
+use node_works::Weights;
 use site_model::Site;
 use std::alloc::{AllocError, Global};
 
@@ -53,7 +53,7 @@ fn list_sets(
     requires sets { AreSmallSets site.now sets.now }
     requires room { HasRoom pool.old }
     requires none { weights.old ≡ [] }
-    ensures rows { pool.new ≡ pool.old ++ rows_of sets.now }
+    ensures rows { pool.new ≡ pool.old ++ set_rows sets.now }
     ensures weights { weights.new ≡ weights_of (length pool.old) sets.now }
 {
     // The points of a site come with the fact that it is valid.

@@ -1,6 +1,6 @@
 -- Rational numbers are equal where their cross products are, and what stands for a quotient.
-use Rattle.std.proofs.Common.{◌≡◌, ℕ, ◌+◌, ◌*◌, ◌/◌, ◌≤◌, refl, sym, subst, ap, ◌∙◌, arith, ℤ, pos, ◌*ℤ◌}
-use Rattle.std.specs.Prelude.{unsigned_abs}
+use Rattle.std.proofs.Common.{◌≡◌, ℕ, ◌+◌, ◌*◌, ◌/◌, ◌≤◌, refl, sym, subst, ap, ◌∙◌, arith, ℤ, pos, ◌*ℤ◌, zero, suc, negsuc}
+use Rattle.std.specs.Prelude.{unsigned_abs, neg_ℤ}
 use Rattle.std.specs.Int.{◌∣◌, IsGcd}
 use Rattle.std.specs.Int.RustNames.{int_div}
 use Rattle.std.proofs.lemmas.Int.{unsigned_abs-mul}
@@ -11,9 +11,17 @@ use native.Mathlib.Bridge.{le_prop}
 use native.Mathlib.Nat.{ℕ_set}
 use Rattle.number_laws.proofs.Ring.{var, nat, times, plus_of, minus_of, same_value, same_value_of}
 use Rattle.fraction_laws.specs.Divisor.{greatest_divisor, AreCoprime, IsGcd-greatest}
-use Rattle.fraction_laws.specs.Reduced.{quotient-times}
 use Rattle.fraction_laws.specs.Rational.{ℚ, ratio}
 use Rattle.fraction_laws.proofs.Divisors.{divides_other}
+
+-- a number that its divisor divides is the quotient times it
+pub quotient-times : (n : ℤ) (g : ℕ) → g ∣ unsigned_abs n → int_div n (pos g) *ℤ pos g ≡ n
+quotient-times (pos n) g h = ap pos (div-mul_cancel g h)
+quotient-times (negsuc n) g h = neg-times (suc n / g) g n (div-mul_cancel g h)
+  where
+    neg-times : (q g n : ℕ) → q * g ≡ suc n → neg_ℤ (pos q) *ℤ pos g ≡ negsuc n
+    neg-times zero g n e = absurd (omega arith)
+    neg-times (suc q) g n e = ap (λ m. neg_ℤ (pos m)) e
 
 -- a rational number is its numerator and its denominator
 pub same_from_parts : (q r : ℚ) → q.num ≡ r.num → q.den ≡ r.den → q ≡ r

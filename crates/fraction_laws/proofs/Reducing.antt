@@ -9,10 +9,10 @@ use Rattle.std.proofs.lemmas.Nat.Gcd.{dvd_refl, dvd_trans}
 use Rattle.std.proofs.Math.Nat.{mul_comm, mul_assoc, mul-div_cancel, div-mul_cancel, dvd-mul_left, dvd-mul_right, pos_of_dvd_of_pos}
 use Rattle.number_laws.proofs.Ring.{var, nat, plus, minus, times, same_value, same_value_of}
 use Rattle.fraction_laws.specs.Divisor.{AreCoprime}
-use Rattle.fraction_laws.specs.Reduced.{abs-quotient, quotient-times, quotients-coprime}
+use Rattle.fraction_laws.specs.Reduced.{abs-quotient, quotients-coprime}
 use Rattle.fraction_laws.specs.Rational.{ℚ, ◌+ℚ◌, ◌*ℚ◌}
 use Rattle.fraction_laws.proofs.Divisors.{divides_other}
-use Rattle.fraction_laws.proofs.Cross.{IsQuotient-parts}
+use Rattle.fraction_laws.proofs.Cross.{IsQuotient-parts, quotient-times}
 use Rattle.fraction_laws.proofs.Expression.{same_quotients, IsQuotient-plus, IsQuotient-times}
 
 -- m / e is n / d, in lowest terms

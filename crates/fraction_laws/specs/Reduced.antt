@@ -1,6 +1,6 @@
 -- A numerator and a denominator, divided by their greatest common divisor, are in lowest terms.
-use Rattle.std.proofs.Common.{◌≡◌, ℕ, zero, suc, ◌*◌, ◌/◌, ◌≤◌, refl, sym, subst, ap, arith, ℤ, pos, negsuc}
-use Rattle.std.specs.Prelude.{unsigned_abs, ◌*ℤ◌, neg_ℤ}
+use Rattle.std.proofs.Common.{◌≡◌, ℕ, zero, suc, ◌*◌, ◌/◌, ◌≤◌, refl, sym, subst, arith, ℤ, pos, negsuc}
+use Rattle.std.specs.Prelude.{unsigned_abs, neg_ℤ}
 use Rattle.std.specs.Int.{◌∣◌, IsGcd}
 use Rattle.std.specs.Int.RustNames.{int_div}
 use Rattle.std.proofs.Math.Nat.{div-mul_cancel, pos_of_dvd_of_pos, dvd_of_mul-dvd-mul_right, mul-dvd-mul_right, one-mul, eq-one_of_dvd-one}
@@ -18,15 +18,6 @@ abs-quotient (negsuc n) g = abs-neg (suc n / g)
     abs-neg : (k : ℕ) → unsigned_abs (neg_ℤ (pos k)) ≡ k
     abs-neg zero = refl
     abs-neg (suc k) = refl
-
--- a number that its divisor divides is the quotient times it
-pub quotient-times : (n : ℤ) (g : ℕ) → g ∣ unsigned_abs n → int_div n (pos g) *ℤ pos g ≡ n
-quotient-times (pos n) g h = ap pos (div-mul_cancel g h)
-quotient-times (negsuc n) g h = neg-times (suc n / g) g n (div-mul_cancel g h)
-  where
-    neg-times : (q g n : ℕ) → q * g ≡ suc n → neg_ℤ (pos q) *ℤ pos g ≡ negsuc n
-    neg-times zero g n e = absurd (omega arith)
-    neg-times (suc q) g n e = ap (λ m. neg_ℤ (pos m)) e
 
 -- what is divided by the greatest divisor has none left
 pub quotients-coprime : (a b g x y : ℕ) → 1 ≤ g → IsGcd a b g → x * g ≡ a → y * g ≡ b → AreCoprime x y

@@ -1,3 +1,6 @@
+//! Layouts that `judge` answers on.
+
+use crate::cables::Cables;
 use run_support::{FORK, answers};
 use std::alloc::{AllocError, Global};
 
@@ -198,5 +201,5 @@ fn is_judged(
 ) -> Result<bool, AllocError> {
     let mut input = String::from_str(alloc, site)?;
     input.push_str(lines)?;
-    answers(alloc, &["judge"], input.as_str(), status, text)
+    answers::<Cables>(alloc, &["judge"], input.as_str(), status, text)
 }

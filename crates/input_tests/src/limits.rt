@@ -1,5 +1,6 @@
 //! Sites past a limit.
 
+use crate::cables::Cables;
 use run_support::ran_with;
 use std::alloc::{AllocError, Global};
 
@@ -10,7 +11,7 @@ fn filled(alloc: Global, byte: u8, count: usize) -> Result<Vec<u8>, AllocError> 
 
 /// Whether `site` refuses the input with this note.
 fn refuses(alloc: Global, input: &[u8], note: &[u8]) -> Result<bool, AllocError> {
-    let site = ran_with(alloc, &["site"], input, &[], &[], &[])?;
+    let site = ran_with::<Cables>(alloc, &["site"], input, &[], &[], &[])?;
     Ok(site.status == 2 && site.out.is_empty() && site.note.as_slice() == note)
 }
 

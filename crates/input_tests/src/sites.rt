@@ -1,3 +1,6 @@
+//! Sites in both forms that `site` writes or refuses.
+
+use crate::cables::Cables;
 use run_support::{FIRST, Ran, answers, changed, ran_with, wrong_answer};
 use std::alloc::{AllocError, Global};
 
@@ -74,13 +77,14 @@ const SITES: [(&str, u8, &str); 17] = [
 
 #[test]
 fn sites_are_written_or_refused(rt: HostRuntime) -> Result<(), AllocError> {
-    assert_eq!(rt; wrong_answer(rt.alloc(), &["site"], &SITES)?, None);
+    let wrong = wrong_answer::<Cables>(rt.alloc(), &["site"], &SITES)?;
+    assert_eq!(rt; wrong, None);
     Ok(())
 }
 
 /// Runs `site` on bytes.
 fn rewritten(alloc: Global, input: &[u8]) -> Result<Ran, AllocError> {
-    ran_with(alloc, &["site"], input, &[], &[], &[])
+    ran_with::<Cables>(alloc, &["site"], input, &[], &[], &[])
 }
 
 #[test]
@@ -88,7 +92,7 @@ fn a_number_in_json_is_whole(rt: HostRuntime) -> Result<(), AllocError> {
     let alloc = rt.alloc();
     let text = changed(alloc, FIRST_JSON, "300", "300.0")?;
     let note = "site refused: Shape at 5\n";
-    assert!(rt; answers(alloc, &["site"], text.as_str(), 2, note)?);
+    assert!(rt; answers::<Cables>(alloc, &["site"], text.as_str(), 2, note)?);
     let cut = rewritten(alloc, &FIRST_JSON.as_bytes()[..40])?;
     assert_eq!(rt; cut.status, 2);
     assert!(rt; cut.note.as_slice() == b"site refused: Form at 0\n".as_slice());

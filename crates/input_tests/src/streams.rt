@@ -1,3 +1,6 @@
+//! Words that are no command, and streams that fail.
+
+use crate::cables::Cables;
 use run_support::{FIRST, ran_with, run_on};
 use std::alloc::{AllocError, Global};
 
@@ -37,17 +40,17 @@ const NO_COMMAND: [&[&str]; 28] = [
 fn other_words_are_usage(rt: HostRuntime) -> Result<(), AllocError> {
     let alloc = rt.alloc();
     for words in NO_COMMAND {
-        let told = run_on(alloc, words, FIRST)?;
+        let told = run_on::<Cables>(alloc, words, FIRST)?;
         assert_eq!(rt; told.status, 1);
         assert!(rt; told.out.is_empty());
         assert!(rt;
             told.note.as_slice()
                 == b"usage: plan N [LANES], check, site, judge, report, drill K TURBINES N\n".as_slice()
         );
-        let untold = ran_with(alloc, words, FIRST.as_bytes(), &[], &[], &[1])?;
+        let untold = ran_with::<Cables>(alloc, words, FIRST.as_bytes(), &[], &[], &[1])?;
         assert_eq!(rt; untold.status, 8);
         assert!(rt; untold.note.as_slice() == b"write fault\n".as_slice());
-        let silent = ran_with(alloc, words, FIRST.as_bytes(), &[], &[], &[1, 2])?;
+        let silent = ran_with::<Cables>(alloc, words, FIRST.as_bytes(), &[], &[], &[1, 2])?;
         assert_eq!(rt; silent.status, 8);
         assert!(rt; silent.note.is_empty());
     }
@@ -63,7 +66,7 @@ fn a_refusal_that_is_not_noted_is_a_write_fault(rt: HostRuntime) -> Result<(), A
         &["site"],
         &["judge"],
     ] {
-        let untold = ran_with(alloc, words, b"", &[], &[], &[1])?;
+        let untold = ran_with::<Cables>(alloc, words, b"", &[], &[], &[1])?;
         assert_eq!(rt; untold.status, 8);
         assert!(rt; untold.out.is_empty());
         assert!(rt; untold.note.ends_with(b"write fault\n"));
@@ -73,7 +76,7 @@ fn a_refusal_that_is_not_noted_is_a_write_fault(rt: HostRuntime) -> Result<(), A
 
 /// The commands with an input that each does its work on.
 fn inputs(alloc: Global) -> Result<Vec<(&'static [&'static str], Vec<u8>)>, AllocError> {
-    let plan = run_on(alloc, &["plan", "1023"], FIRST)?;
+    let plan = run_on::<Cables>(alloc, &["plan", "1023"], FIRST)?;
     let mut inputs: Vec<(&'static [&'static str], Vec<u8>)> = Vec::new(alloc);
     inputs.push((&["plan", "1023"], Vec::from_slice(alloc, FIRST.as_bytes())?))?;
     inputs.push((&["check"], Vec::from_slice(alloc, plan.out.as_slice())?))?;
@@ -91,7 +94,7 @@ fn an_input_that_fails_is_a_read_fault(rt: HostRuntime) -> Result<(), AllocError
     for (words, input) in inputs(alloc)? {
         let mut ended = false;
         for pull in 1..u64::MAX {
-            let read = ran_with(alloc, words, input.as_slice(), &[pull], &[], &[])?;
+            let read = ran_with::<Cables>(alloc, words, input.as_slice(), &[pull], &[], &[])?;
             if read.status == 0 {
                 // No more pulls are needed.
                 ended = pull > 4;
@@ -110,11 +113,11 @@ fn an_input_that_fails_is_a_read_fault(rt: HostRuntime) -> Result<(), AllocError
 fn an_output_that_fails_is_a_write_fault(rt: HostRuntime) -> Result<(), AllocError> {
     let alloc = rt.alloc();
     for (words, input) in inputs(alloc)? {
-        let whole = ran_with(alloc, words, input.as_slice(), &[], &[], &[])?;
+        let whole = ran_with::<Cables>(alloc, words, input.as_slice(), &[], &[], &[])?;
         assert_eq!(rt; whole.status, 0);
         let mut ended = false;
         for push in 1..u64::MAX {
-            let cut = ran_with(alloc, words, input.as_slice(), &[], &[push], &[])?;
+            let cut = ran_with::<Cables>(alloc, words, input.as_slice(), &[], &[push], &[])?;
             if cut.status == 0 {
                 // No more pushes are needed.
                 assert!(rt; cut.out.as_slice() == whole.out.as_slice());
@@ -140,10 +143,10 @@ fn line_count(bytes: &[u8]) -> usize {
 #[test]
 fn a_plan_is_written_line_by_line(rt: HostRuntime) -> Result<(), AllocError> {
     let alloc = rt.alloc();
-    let whole = run_on(alloc, &["plan", "10"], FIRST)?;
+    let whole = run_on::<Cables>(alloc, &["plan", "10"], FIRST)?;
     let lines = line_count(whole.out.as_slice());
     for push in 1..=lines {
-        let cut = ran_with(
+        let cut = ran_with::<Cables>(
             alloc,
             &["plan", "10"],
             FIRST.as_bytes(),

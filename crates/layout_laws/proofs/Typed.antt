@@ -13,7 +13,8 @@ use Rattle.layout_laws.specs.Typable.{IsTypable, extended_by}
 use Rattle.layout_laws.proofs.Alike.{load-same, Keeps-same, Starts-same, ends_in_range-same}
 use Rattle.layout_laws.proofs.Arcs.{SameEnds-from_arcs}
 use Rattle.layout_laws.proofs.Legal.{kept_where_legal}
-use Rattle.layout_laws.proofs.Typing.{IsCheapOrNone, cheapest_of, cheapest-le, IsCheapest-same, borne-le_largest, some_bears, all-at, matched, SameArcs-turned, SameArcs-further, StartsDiffer-arcs, sum_by-le_matched, some_cheap_typed}
+use Rattle.layout_laws.specs.Cheapest.{IsCheapestOrZero}
+use Rattle.layout_laws.proofs.Typing.{cheapest_of, cheapest-le, IsCheapest-same, borne-le_largest, some_bears, all-at, matched, SameArcs-turned, SameArcs-further, StartsDiffer-arcs, sum_by-le_matched, some_cheap_typed}
 
 -- a legal layout is a grown part
 pub IsGrown-legal : (s : Site) (cables : List Cable) → IsLegal s cables → IsGrown s cables
@@ -57,7 +58,7 @@ cheap-at s cables cheap typed a arcs bears i c h =
     let loads : load s typed m.cable.from ≡ load s cheap c.from =
     ap (load s typed) (sym m.from) ∙ load-same s typed cheap (λ p. sym (SameEnds-from_arcs cheap typed same p)) c.from in
     cheapest_of s c.from c.to (load s cheap c.from) c.grade m.cable.grade
-    (all-at (λ (d : Cable). IsCheapOrNone s d.from d.to (load s cheap d.from) d.grade) cheap i c a.types h)
+    (all-at (λ (d : Cable). IsCheapestOrZero s d.from d.to (load s cheap d.from) d.grade) cheap i c a.types h)
     (subst (λ (n : ℕ). Bears s m.cable.grade n) loads (bears i m.cable m.is_cable))
 
 -- some choice of types makes the list grown: all other rules hold, and no load is more than the largest capacity
@@ -122,7 +123,7 @@ IsGrown-typable s cables cheap some k a =
     ap (load s cables) (sym m.from) ∙ load-same s cables cheap (λ p. sym (SameEnds-from_arcs cheap cables a.arcs p)) c.from in
     let bears = some_bears s (load s cables m.cable.from) some (k.loads i m.cable m.is_cable) in
     (cheapest_of s c.from c.to (load s cheap c.from) c.grade bears.0
-    (all-at (λ (d : Cable). IsCheapOrNone s d.from d.to (load s cheap d.from) d.grade) cheap i c a.types h)
+    (all-at (λ (d : Cable). IsCheapestOrZero s d.from d.to (load s cheap d.from) d.grade) cheap i c a.types h)
     (subst (λ (n : ℕ). Bears s bears.0 n) loads bears.1)).bears)
 
 -- the cheapest types make a list grown where some types do
@@ -194,13 +195,13 @@ cheap_typed-same s cables xs ys a b =
     let same = SameArcs-further xs cables ys a.arcs (SameArcs-turned ys cables b.arcs) in
     same-list xs ys same (λ i c d h k u v.
     let w : load s xs c.from ≡ load s ys d.from = load-same s xs ys (SameEnds-from_arcs xs ys same) c.from ∙ ap (load s ys) u in
-    let x = all-at (λ (e : Cable). IsCheapOrNone s e.from e.to (load s xs e.from) e.grade) xs i c a.types h in
-    let y = all-at (λ (e : Cable). IsCheapOrNone s e.from e.to (load s ys e.from) e.grade) ys i d b.types k in
-    one c.from c.to (load s xs c.from) c.grade d.grade x (subst (λ (n : ℕ). IsCheapOrNone s c.from c.to n d.grade) (sym w)
-    (subst (λ (p : ℕ). IsCheapOrNone s p c.to (load s ys d.from) d.grade) (sym u)
-    (subst (λ (q : ℕ). IsCheapOrNone s d.from q (load s ys d.from) d.grade) (sym v) y))))
+    let x = all-at (λ (e : Cable). IsCheapestOrZero s e.from e.to (load s xs e.from) e.grade) xs i c a.types h in
+    let y = all-at (λ (e : Cable). IsCheapestOrZero s e.from e.to (load s ys e.from) e.grade) ys i d b.types k in
+    one c.from c.to (load s xs c.from) c.grade d.grade x (subst (λ (n : ℕ). IsCheapestOrZero s c.from c.to n d.grade) (sym w)
+    (subst (λ (p : ℕ). IsCheapestOrZero s p c.to (load s ys d.from) d.grade) (sym u)
+    (subst (λ (q : ℕ). IsCheapestOrZero s d.from q (load s ys d.from) d.grade) (sym v) y))))
   where
-    one : (from to load g h : ℕ) → IsCheapOrNone s from to load g → IsCheapOrNone s from to load h → g ≡ h
+    one : (from to load g h : ℕ) → IsCheapestOrZero s from to load g → IsCheapestOrZero s from to load h → g ≡ h
     one from to load g h (inl x) (inl y) = IsCheapest-same s from to load g h x y
     one from to load g h (inl x) (inr y) = absurd (y.0 g x.bears)
     one from to load g h (inr x) (inl y) = absurd (x.0 h y.bears)

@@ -12,6 +12,7 @@ use Rattle.cable_definitions.specs.Walk.{load}
 use Rattle.cable_definitions.specs.Layout.{IsCable, cost}
 use Rattle.cable_definitions.specs.Part.{SameArcs, AreCheapTyped}
 use Rattle.layout_laws.specs.Alike.{StartsDiffer}
+use Rattle.layout_laws.specs.Cheapest.{IsCheapestOrZero}
 use Rattle.layout_laws.proofs.Alike.{load-same}
 use Rattle.layout_laws.proofs.Arcs.{SameEnds-from_arcs}
 
@@ -105,20 +106,16 @@ some_cheapest s from to load = by (least_below (λ g. cost_of s from to g load) 
     by (inl none) = inl (λ g b. none g b.listed b)
     by (inr (g, l, b, least)) = inr (g, record { bears = b; least = λ other c. least other c.listed c })
 
--- the cheapest type that bears the load, or type 0 where none does
-abbrev pub IsCheapOrNone : Site → ℕ → ℕ → ℕ → ℕ → Type 0
-IsCheapOrNone s from to load grade = IsCheapest s from to load grade ⊎ (((other : ℕ) → ¬ (Bears s other load)) × (grade ≡ 0))
-
--- there is one
-pub cheap_or_none : (s : Site) (from to load : ℕ) → (g : ℕ) × IsCheapOrNone s from to load g
+-- some type is the cheapest that bears the load, or type 0 where none does
+pub cheap_or_none : (s : Site) (from to load : ℕ) → (g : ℕ) × IsCheapestOrZero s from to load g
 cheap_or_none s from to load = by (some_cheapest s from to load)
   where
-    by : ((g : ℕ) → ¬ (Bears s g load)) ⊎ ((g : ℕ) × IsCheapest s from to load g) → (g : ℕ) × IsCheapOrNone s from to load g
+    by : ((g : ℕ) → ¬ (Bears s g load)) ⊎ ((g : ℕ) × IsCheapest s from to load g) → (g : ℕ) × IsCheapestOrZero s from to load g
     by (inl none) = (0, inr (none, refl))
     by (inr (g, h)) = (g, inl h)
 
 -- where some type bears the load, it is the cheapest
-pub cheapest_of : (s : Site) (from to load grade other : ℕ) → IsCheapOrNone s from to load grade → Bears s other load → IsCheapest s from to load grade
+pub cheapest_of : (s : Site) (from to load grade other : ℕ) → IsCheapestOrZero s from to load grade → Bears s other load → IsCheapest s from to load grade
 cheapest_of s from to load grade other (inl h) b = h
 cheapest_of s from to load grade other (inr h) b = absurd (h.0 other b)
 
@@ -256,13 +253,13 @@ some_cheap_typed s cables =
       typed,
       record {
         arcs = arcs;
-        types = All-map (λ (c : Cable). IsCheapOrNone s c.from c.to (load s typed c.from) c.grade) (with_cheap_type s cables) cables
+        types = All-map (λ (c : Cable). IsCheapestOrZero s c.from c.to (load s typed c.from) c.grade) (with_cheap_type s cables) cables
             (λ k d l. right typed arcs (get_or cables k d));
       },
     )
   where
-    right : (typed : List Cable) → SameArcs typed cables → (c : Cable) → IsCheapOrNone s c.from c.to (load s typed c.from) (cheap_or_none s c.from c.to (load s cables c.from)).0
+    right : (typed : List Cable) → SameArcs typed cables → (c : Cable) → IsCheapestOrZero s c.from c.to (load s typed c.from) (cheap_or_none s c.from c.to (load s cables c.from)).0
     right typed arcs c =
-        subst (λ (n : ℕ). IsCheapOrNone s c.from c.to n (cheap_or_none s c.from c.to (load s cables c.from)).0)
+        subst (λ (n : ℕ). IsCheapestOrZero s c.from c.to n (cheap_or_none s c.from c.to (load s cables c.from)).0)
         (load-same s cables typed (λ p. sym (SameEnds-from_arcs typed cables arcs p)) c.from)
         (cheap_or_none s c.from c.to (load s cables c.from)).1

@@ -4,3 +4,5 @@ pub mod Alike
 pub mod Visits
 -- lists of cables to which types can be given that make them grown
 pub mod Typable
+-- the cheapest type at a load
+pub mod Cheapest

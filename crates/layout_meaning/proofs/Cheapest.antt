@@ -4,12 +4,18 @@ use Rattle.std.proofs.lemmas.List.{take_all, take_more, map_push}
 use Rattle.cable_definitions.specs.declared.cable.Cable.{Cable}
 use Rattle.cable_definitions.specs.Site.{Site}
 use Rattle.cable_definitions.specs.Walk.{load}
-use Rattle.cable_definitions.specs.Part.{AreCheapTyped}
+use Rattle.cable_definitions.specs.Layout.{IsCable}
+use Rattle.cable_definitions.specs.Part.{AreCheapTyped, SameArcs}
 use Rattle.number_laws.proofs.Keys.{slice_get-append_one}
 use Rattle.layout_laws.proofs.Alike.{load-same}
 use Rattle.layout_laws.proofs.Arcs.{SameEnds-from_arcs}
-use Rattle.layout_meaning.specs.Typed.{AreTyped, IsCheapestOrZero}
+use Rattle.layout_laws.specs.Cheapest.{IsCheapestOrZero}
 use Rattle.layout_meaning.proofs.Places.{slice_get_below, slice_get_at, same_item}
+
+-- the same cables, each of the cheapest type that bears the load that a whole list gives it, or of type 0 where none does
+pub record AreTyped (s : Site) (whole cables typed : List Cable) : Type 0 where
+  pub arcs : SameArcs typed cables
+  pub types : (i : ℕ) (c : Cable) → IsCable typed i c → IsCheapestOrZero s c.from c.to (load s whole c.from) c.grade
 
 -- one cable more
 pub typed_more : (s : Site) (whole cables typed : List Cable) (i : ℕ) (c : Cable) (grade : ℕ) → slice_get cables i ≡ Some c → AreTyped s whole (take i cables) typed → IsCheapestOrZero s c.from c.to (load s whole c.from) grade

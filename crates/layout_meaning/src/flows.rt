@@ -119,10 +119,10 @@ fn pass_by(loads: &mut [u32; POINTS], met: &mut [bool; POINTS], at: u32, power: 
     ensures tally { (base : List ℕ) → IsTally base power met.old loads.old → IsTally base power met.new loads.new }
     ensures met { Marks at met.old met.new }
 {
-    let shelf = at as usize;
-    if shelf < POINTS && !met[shelf] {
-        met[shelf] = true;
-        loads[shelf] += power;
+    let point = at as usize;
+    if point < POINTS && !met[point] {
+        met[point] = true;
+        loads[point] += power;
     }
 }
 

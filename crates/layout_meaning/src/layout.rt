@@ -1,3 +1,5 @@
+//! A list of cables in a room that is taken once.
+
 use cable_definitions::cable::Cable;
 use std::alloc::{AllocError, Global};
 use std::marker::Model;
@@ -62,14 +64,6 @@ impl Layout {
 
     /// The cables in their order.
     pub fn cables(&self) -> &[Cable]
-        ensures value { result.now ≡ self.now }
-        ensures at_most { length self.now ≤ 256 }
-    {
-        self.cables.as_slice()
-    }
-
-    /// The cables in their order.
-    pub fn as_slice(&self) -> &[Cable]
         ensures value { result.now ≡ self.now }
         ensures at_most { length self.now ≤ 256 }
     {

@@ -9,13 +9,13 @@ use cable_definitions::cable::Cable;
 use std::marker::Model;
 
 /// How many point numbers have their cable at hand.
-const SHELVES: usize = 256;
+const POINTS: usize = 256;
 
 /// A list of cables, with the first one out of each point at hand.
 #[derive(Drop)]
 pub struct Outgoing<'a> {
     cables: &'a [Cable],
-    first: [Option<Cable>; SHELVES],
+    first: [Option<Cable>; POINTS],
 }
 
 impl<'a> Model for Outgoing<'a> {
@@ -31,13 +31,13 @@ impl<'a> Model for Outgoing<'a> {
 }
 
 /// The first cable out of each point number below 256.
-fn first_out(cables: &[Cable]) -> [Option<Cable>; SHELVES]
+fn first_out(cables: &[Cable]) -> [Option<Cable>; POINTS]
     ensures { AreFirst cables.now result }
 {
-    let mut first = [None; SHELVES];
+    let mut first = [None; POINTS];
     for cable in cables {
         let p = cable.from as usize;
-        if p < SHELVES {
+        if p < POINTS {
             first[p] = first[p].or(Some(*cable));
         }
     }
@@ -64,9 +64,9 @@ impl<'a> Outgoing<'a> {
     pub fn cable_out(&self, p: u32) -> Option<Cable>
         ensures { result ≡ cable_out_of self.now p }
     {
-        let shelf = p as usize;
-        if shelf < SHELVES {
-            self.first[shelf]
+        let point = p as usize;
+        if point < POINTS {
+            self.first[point]
         } else {
             find_out(self.cables, p)
         }

@@ -2,7 +2,8 @@
 
 ghost use Rattle.std.specs.Prelude.{◌≡◌, ℕ, ◌≤◌, ◌<◌, length};
 ghost use Rattle.cable_definitions.specs.Part.{AreCheapTyped};
-ghost use Rattle.layout_meaning.specs.Typed.{IsCheapestOrZero, AreTyped, JoinPoints};
+ghost use Rattle.layout_laws.specs.Cheapest.{IsCheapestOrZero};
+ghost use Rattle.layout_meaning.specs.Typed.{JoinPoints};
 
 use crate::flows::Flows;
 use crate::layout::MOST_CABLES;

@@ -5,7 +5,7 @@ use crate::network::Network;
 use crate::points::{POINTS, PointSet};
 use crate::state::State;
 
-/// Shortest ways from points to substations over segments, as far as they are known (Dijkstra).
+/// Shortest ways from points to substations over segments, as far as they are known (Dijkstra, 1959).
 #[derive(Drop)]
 struct Ways {
     /// In metres.

@@ -26,15 +26,6 @@ pub(crate) struct Farm {
     prices: Vec<i64>,
 }
 
-/// The largest capacity of the types, in power units.
-fn largest_capacity(types: &[CableType]) -> u32 {
-    let mut most = 0;
-    for cable_type in types {
-        most = most.max(cable_type.capacity);
-    }
-    most
-}
-
 /// What a metre of the cheapest type that bears a load costs, in cost units.
 fn price_of(types: &[CableType], load: u32) -> i64 {
     let square = (load as i64).wrapping_mul(load as i64);
@@ -60,7 +51,7 @@ fn all_prices(alloc: Global, types: &[CableType], capacity: u32) -> Result<Vec<i
 impl Farm {
     /// Reads a site.
     pub(crate) fn new(alloc: Global, site: &Site) -> Result<Farm, AllocError> {
-        let capacity = largest_capacity(site.types());
+        let capacity = site.largest_capacity();
         let prices = all_prices(alloc, site.types(), capacity)?;
         let mut farm = Farm {
             roles: [Role::Bend; POINTS],
@@ -85,7 +76,7 @@ impl Farm {
             return Ok(());
         };
         self.count = self.count.wrapping_add(1);
-        if matches!(kind, Kind::Turbine { .. }) {
+        if kind.is_turbine() {
             self.turbines.push(p)?;
         }
         self.place(p, kind);

@@ -156,19 +156,6 @@ impl Segments {
     }
 }
 
-/// Whether the ranges between two pairs of numbers are apart.
-fn are_apart(a: i64, b: i64, c: i64, d: i64) -> bool {
-    a.max(b) < c.min(d) || c.max(d) < a.min(b)
-}
-
-/// Whether the segments between two pairs of places clash; their boxes are compared first.
-fn places_clash(a: Place, b: Place, c: Place, d: Place) -> bool {
-    if are_apart(a.x, b.x, c.x, d.x) || are_apart(a.y, b.y, c.y, d.y) {
-        return false;
-    }
-    clash(a, b, c, d)
-}
-
 /// The place of a point.
 fn place_at(points: &[Point], p: u8) -> Option<Place> {
     match points.get(p as usize) {
@@ -191,5 +178,5 @@ fn segments_clash(points: &[Point], segment: Segment, second: Segment) -> bool {
     let Some(d) = place_at(points, second.second) else {
         return false;
     };
-    places_clash(a, b, c, d)
+    clash(a, b, c, d)
 }

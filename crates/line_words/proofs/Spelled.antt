@@ -10,7 +10,13 @@ use Rattle.cable_definitions.specs.Items.{Field, IsWithin}
 use Rattle.line_words.specs.declared.number.Number.{Number}
 use Rattle.line_words.specs.declared.number.Number.TheVariants.{Small}
 use Rattle.line_words.specs.Numbers.{Is}
-use Rattle.line_words.specs.Members.{up_to, Fit, AreSpelled, AreSpelledSoFar}
+use Rattle.line_words.specs.Members.{up_to, Fit, AreSpelled}
+
+-- the words at the front are spelled, and these are left
+pub record AreSpelledSoFar (ws left : List (List ℕ)) (most : ℕ) (fits : Bool) (members : List ℕ) : Type 0 where
+  pub seen : List (List ℕ)
+  pub words_are : ws ≡ seen ++ left
+  pub spelled : AreSpelled seen most fits members
 
 -- the number, or another where there is none
 abbrev value_or : ℤ → Option ℤ → ℤ

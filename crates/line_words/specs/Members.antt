@@ -1,5 +1,5 @@
 -- The members of a row as words spell them.
-use Rattle.std.specs.Prelude.{◌≡◌, ℕ, ◌≤◌, ℤ, pos, List, ◌++◌, length, map, Bool, true, false, All, Some}
+use Rattle.std.specs.Prelude.{◌≡◌, ℕ, ◌≤◌, ℤ, pos, List, length, map, Bool, true, false, All, Some}
 use Rattle.cable_definitions.specs.Numeral.{spelling}
 use Rattle.cable_definitions.specs.Items.{Field, IsWithin, within}
 
@@ -17,9 +17,3 @@ pub record AreSpelled (ws : List (List ℕ)) (most : ℕ) (fits : Bool) (members
   pub words_are : ws ≡ map spelling numbers
   pub fit : fits ≡ true → (numbers ≡ map pos members) × Fit most numbers
   pub unfit : fits ≡ false → ¬ (Fit most numbers)
-
--- the words at the front are spelled, and these are left
-pub record AreSpelledSoFar (ws left : List (List ℕ)) (most : ℕ) (fits : Bool) (members : List ℕ) : Type 0 where
-  pub seen : List (List ℕ)
-  pub words_are : ws ≡ seen ++ left
-  pub spelled : AreSpelled seen most fits members

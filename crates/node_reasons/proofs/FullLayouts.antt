@@ -17,7 +17,7 @@ use Rattle.proof_laws.proofs.Lists.{pairs_at}
 use Rattle.proof_laws.proofs.Within.{used_arc, used_cable_on}
 use Rattle.proof_laws.proofs.FullNodes.{full-cheap, full-legal}
 use Rattle.layout_meaning.specs.Typed.{JoinPoints}
-use Rattle.node_reasons.specs.Used.{UsedList, AreTwins, AreUsed}
+use Rattle.node_reasons.specs.Used.{UsedList, StartAlike, AreUsed}
 use Rattle.node_reasons.proofs.Gathering.{starts_within, ends_within}
 
 -- where a list is seen the same through a function, an element of one has its like in the other
@@ -33,8 +33,8 @@ like_at f (x ∷ xs) (y ∷ ys) e (suc i) c k =
     like_at f xs ys rest i c k
 
 -- no full layout has two cables that start alike
-pub no_twins : (s : Site) (arcs : List Arc) (marks : List Mark) (a b : ℕ) → AreArcs s arcs → AreTwins arcs marks a b → (full : List Cable) → ¬ (IsFull s arcs marks full)
-no_twins s arcs marks a b are t full f =
+pub no_same_start : (s : Site) (arcs : List Arc) (marks : List Mark) (a b : ℕ) → AreArcs s arcs → StartAlike arcs marks a b → (full : List Cable) → ¬ (IsFull s arcs marks full)
+no_same_start s arcs marks a b are t full f =
     let used = used_cables arcs marks in
     let x = used_cable_on arcs marks a t.first t.first_is.is_arc t.first_is.is_used in
     let y = used_cable_on arcs marks b t.second t.second_is.is_arc t.second_is.is_used in
@@ -60,7 +60,7 @@ no_twins s arcs marks a b are t full f =
     apart (inr (same, less)) h = omega arith
 
 -- where no two start alike, the gathered cables are the used cables
-pub gathered_are : (arcs : List Arc) (marks : List Mark) (used : UsedList) (cables : List Cable) → AreUsed arcs marks used → length marks ≡ length arcs → used.twins ≡ None → cables ≡ used.cables → cables ≡ used_cables arcs marks
+pub gathered_are : (arcs : List Arc) (marks : List Mark) (used : UsedList) (cables : List Cable) → AreUsed arcs marks used → length marks ≡ length arcs → used.same_start ≡ None → cables ≡ used.cables → cables ≡ used_cables arcs marks
 gathered_are arcs marks used cables u e none same =
     let all_arcs : take (length arcs) arcs ≡ arcs = take_all (length arcs) arcs (omega arith) in
     let all_marks : take (length arcs) marks ≡ marks = take_all (length arcs) marks (omega arith) in

@@ -17,7 +17,7 @@ use Rattle.layout_laws.specs.Alike.{SameOuts}
 use Rattle.proof_laws.proofs.Boxes.{append_left, append_right, append_either}
 use Rattle.proof_laws.proofs.Lists.{pairs_at, some_at}
 use Rattle.layout_laws.proofs.Typing.{all-at}
-use Rattle.node_reasons.specs.Used.{UsedList, with_used, with_twins, IsUsed, AreTwins, AreUsedBelow, IsNextStart}
+use Rattle.node_reasons.specs.Used.{UsedList, with_used, with_same_start, IsUsed, StartAlike, AreUsedBelow, IsNextStart}
 
 -- ---- one arc more
 -- the cable of an arc, of type 0
@@ -122,7 +122,7 @@ unused_step arcs marks n m used l f h u =
       outs = λ p. u.outs p ∙ ap (λ (xs : List Cable). cable_out xs p) (sym same);
       few = u.few;
       numbered = u.numbered;
-      twins = u.twins;
+      same_start = u.same_start;
       same = λ e. u.same e ∙ sym same;
       all = λ e k arc k_below is. elim (below_or k n k_below) [
         | inl less ↦ u.all e k arc less is
@@ -136,9 +136,9 @@ unused_step arcs marks n m used l f h u =
     nothing Unused g xs arc = append-nil xs
 
 -- a used arc that starts like the last one
-pub twins_step : (arcs : List Arc) (marks : List Mark) (n : ℕ) (a : Arc) (used : UsedList) (last next : ℕ) → slice_get arcs n ≡ Some a → slice_get marks n ≡ Some Used → a.from < next
-    → AreUsedBelow arcs marks n used → IsNextStart arcs marks n used last next → AreUsedBelow arcs marks (n + 1) (with_twins used last n)
-twins_step arcs marks n a used last next e f l u x =
+pub same_start_step : (arcs : List Arc) (marks : List Mark) (n : ℕ) (a : Arc) (used : UsedList) (last next : ℕ) → slice_get arcs n ≡ Some a → slice_get marks n ≡ Some Used → a.from < next
+    → AreUsedBelow arcs marks n used → IsNextStart arcs marks n used last next → AreUsedBelow arcs marks (n + 1) (with_same_start used last n)
+same_start_step arcs marks n a used last next e f l u x =
     let before = x.last_is (omega arith) in
     let later = x.later n a (omega arith) e in
     let alike : before.0.from ≡ a.from = (let q = before.3 in omega arith) in
@@ -148,11 +148,11 @@ twins_step arcs marks n a used last next e f l u x =
       outs = λ p. cable_out-kept used.cables (cable_on a) starts p ∙ outs-push used.cables (used_below arcs marks n) (cable_on a) u.outs p ∙ ap (λ (xs : List Cable). cable_out xs p) (sym more);
       few = u.few;
       numbered = u.numbered;
-      twins = λ b c g.
+      same_start = λ b c g.
           let pair = same_Some {A = ℕ × ℕ} (last, n) (b, c) g in
           let first : last ≡ b = ap (λ (z : ℕ × ℕ). z.0) pair in
           let second : n ≡ c = ap (λ (z : ℕ × ℕ). z.1) pair in
-          subst (λ (k : ℕ). AreTwins arcs marks b k) second (subst (λ (k : ℕ). AreTwins arcs marks k n) first
+          subst (λ (k : ℕ). StartAlike arcs marks b k) second (subst (λ (k : ℕ). StartAlike arcs marks k n) first
           (record { first = before.0; second = a; first_is = before.1; second_is = record { is_arc = e; is_used = f }; before = before.2; alike = alike }));
       same = λ g. absurd (cc);
       all = λ g. absurd (cc);
@@ -172,7 +172,7 @@ push_step arcs marks n a used last next e f l w u x =
         | inl h ↦ u.numbered j k h
         | inr r ↦ last_number k r.0 r.2
       ];
-      twins = u.twins;
+      same_start = u.same_start;
       same = λ g. ap (λ (xs : List Cable). xs ++ cable_on a ∷ []) (u.same g) ∙ sym more;
       all = λ g k arc k_below is. elim (below_or k n k_below) [
         | inl less ↦ (let r = u.all g k arc less is in (r.0, append_left used.numbers (n ∷ []) r.0 k r.1))

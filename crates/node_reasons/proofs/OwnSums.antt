@@ -24,9 +24,13 @@ use Rattle.layout_laws.proofs.Typing.{all-at}
 use Rattle.proof_laws.proofs.Decided.{arc_choice}
 use Rattle.proof_laws.proofs.Lists.{list_any-at, list_any-place, false_from, true_or_false, both, both_pass, eqb_swapped, some_at}
 use Rattle.candidate_cables.specs.Tables.{IsFirstFrom, AreNumbersInto}
-use Rattle.bound_value.proofs.Tables.{not_earlier}
+use Rattle.cable_rows.proofs.Tables.{not_earlier}
 use Rattle.node_reasons.specs.Extents.{IsUpTo}
-use Rattle.node_reasons.specs.Own.{starts_in, values, IsExtremeAt, IsSumAt, starts_below, start_points, AreFurther}
+use Rattle.node_reasons.specs.Own.{starts_in, values, IsExtremeAt, IsSumAt, start_points, AreFurther}
+
+-- whether a number below n is that of an arc that starts in one of these points
+abbrev pub starts_below : List Arc → List ℕ → ℕ → ℕ → Bool
+starts_below arcs points n a = nat_lt a n && starts_in points (slice_get arcs a)
 
 -- ---- sums of values
 -- what a list sums to

@@ -8,9 +8,9 @@ use Rattle.cable_definitions.specs.Tree.{counted}
 use Rattle.candidate_cables.specs.Tables.{IsFirstFrom}
 use Rattle.node_reasons.specs.declared.boxed_row.BoxedRow.{BoxedRow}
 use Rattle.node_reasons.specs.declared.extent.Extent.{Extent}
-use Rattle.node_reasons.specs.Own.{starts_in, IsSumAt, starts_below}
+use Rattle.node_reasons.specs.Own.{starts_in, IsSumAt}
 use Rattle.node_reasons.specs.RowBox.{IsArcEnd, IsArcExtent, IsEndAt, IsExtentAt}
-use Rattle.node_reasons.proofs.OwnSums.{sum_none, sum_alike, one_out_more, one_point_more, one_number_more, within_more, within_sum, within_nothing}
+use Rattle.node_reasons.proofs.OwnSums.{sum_none, sum_alike, one_out_more, one_point_more, one_number_more, within_more, within_sum, within_nothing, starts_below}
 
 -- ---- no arcs
 none_end : (R : ℤ → ℤ → Type 0) (b : BoxedRow) (test : ℕ → Bool) (most : ℕ) (z : ℤ) → z ≡ pos 0 → ((a : ℕ) → test a ≡ false) → IsEndAt R b test most z

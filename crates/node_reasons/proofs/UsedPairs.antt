@@ -12,7 +12,7 @@ use Rattle.cable_definitions.specs.Tree.{IsUsedPair}
 use Rattle.proof_laws.proofs.Compatible.{PairsClash-swapped}
 use Rattle.proof_laws.proofs.Lists.{pairs_at}
 use Rattle.node_reasons.specs.Reasons.{AreIncompatibleAt}
-use Rattle.node_reasons.specs.Used.{UsedList, IsUsed, AreTwins, AreUsed}
+use Rattle.node_reasons.specs.Used.{UsedList, IsUsed, StartAlike, AreUsed}
 
 -- arcs at known places
 pub incompatible_at : (s : Site) (arcs : List Arc) (a b : ℕ) (x y : Arc) (r : Bool) → slice_get arcs a ≡ Some x → slice_get arcs b ≡ Some y → (IsTrue r ↔ AreIncompatible s x y) → (IsTrue r ↔ AreIncompatibleAt s arcs a b)
@@ -38,8 +38,8 @@ incompatible-swapped s x y h = record {
 }
 
 -- two used arcs that start alike
-pub twins_pair : (s : Site) (arcs : List Arc) (marks : List Mark) (a b : ℕ) → AreArcs s arcs → AreTwins arcs marks a b → (a ≢ b) × IsUsedPair s arcs marks a b
-twins_pair s arcs marks a b are t = (
+pub same_start_pair : (s : Site) (arcs : List Arc) (marks : List Mark) (a b : ℕ) → AreArcs s arcs → StartAlike arcs marks a b → (a ≢ b) × IsUsedPair s arcs marks a b
+same_start_pair s arcs marks a b are t = (
   (λ e. let l = t.before in omega arith),
   record {
     first = t.first;
@@ -66,7 +66,7 @@ used_pair s arcs marks a b x y u v k = (
 )
 
 -- where all used arcs are gathered and none is incompatible with an earlier one, no two are
-pub no_pair : (s : Site) (arcs : List Arc) (marks : List Mark) (used : UsedList) (numbers : List ℕ) (count : ℕ) → AreUsed arcs marks used → used.twins ≡ None → numbers ≡ used.numbers → length numbers ≤ count
+pub no_pair : (s : Site) (arcs : List Arc) (marks : List Mark) (used : UsedList) (numbers : List ℕ) (count : ℕ) → AreUsed arcs marks used → used.same_start ≡ None → numbers ≡ used.numbers → length numbers ≤ count
     → ((i a j b : ℕ) → i < count → slice_get numbers i ≡ Some a → j < i → slice_get numbers j ≡ Some b → ¬ (AreIncompatibleAt s arcs b a))
     → (a b : ℕ) → a ≢ b → ¬ (IsUsedPair s arcs marks a b)
 no_pair s arcs marks used numbers count u none same l h a b apart p =

@@ -1,5 +1,5 @@
 -- Sums of extremes over some of the arcs.
-use Rattle.std.specs.Prelude.{◌≡◌, ℕ, zero, suc, ◌+◌, ◌≤◌, ◌<◌, ℤ, pos, List, [], ◌∷◌, length, slice_get, Option, Some, None, AllPairs, Bool, true, false, ◌&&◌, nat_lt}
+use Rattle.std.specs.Prelude.{◌≡◌, ℕ, zero, suc, ◌+◌, ◌≤◌, ◌<◌, ℤ, pos, List, [], ◌∷◌, length, slice_get, Option, Some, None, AllPairs, Bool, true, false}
 use Rattle.cable_definitions.specs.declared.cable.Arc.{Arc}
 use Rattle.cable_definitions.specs.declared.row.Mark.{Mark}
 use Rattle.cable_definitions.specs.declared.row.RowKind.{RowKind}
@@ -29,10 +29,6 @@ pub record IsSumAt (Relates : ℤ → ℤ → Type 0) (s : Site) (arcs : List Ar
   pub elsewhere : (a : ℕ) → a < length arcs → test a ≡ false → value_at a ≡ pos 0
   pub extremes : (a : ℕ) → a < length arcs → test a ≡ true → IsExtremeAt Relates s arcs marks f a (value_at a)
   pub sum : total ≡ sum_int (λ z. z) (values value_at 0 (length arcs))
-
--- whether a number below n is that of an arc that starts in one of these points
-abbrev pub starts_below : List Arc → List ℕ → ℕ → ℕ → Bool
-starts_below arcs points n a = nat_lt a n && starts_in points (slice_get arcs a)
 
 -- the points by whose arcs out a row of this kind counts
 abbrev pub start_points : RowKind → List ℕ → List ℕ

@@ -12,15 +12,15 @@ use Rattle.layout_laws.specs.Alike.{SameOuts}
 pub record UsedList : Type 0 where
   pub cables : List Cable
   pub numbers : List ℕ
-  pub twins : Option (ℕ × ℕ)
+  pub same_start : Option (ℕ × ℕ)
 
 -- the list with one more cable, of this arc number
 abbrev pub with_used : UsedList → ℕ → Cable → UsedList
-with_used used number cable = record { cables = used.cables ++ cable ∷ []; numbers = used.numbers ++ number ∷ []; twins = used.twins }
+with_used used number cable = record { cables = used.cables ++ cable ∷ []; numbers = used.numbers ++ number ∷ []; same_start = used.same_start }
 
 -- the list with these two arcs that start alike
-abbrev pub with_twins : UsedList → ℕ → ℕ → UsedList
-with_twins used a b = record { cables = used.cables; numbers = used.numbers; twins = Some (a, b) }
+abbrev pub with_same_start : UsedList → ℕ → ℕ → UsedList
+with_same_start used a b = record { cables = used.cables; numbers = used.numbers; same_start = Some (a, b) }
 
 -- arc number k is marked used, and this is it
 pub record IsUsed (arcs : List Arc) (marks : List Mark) (k : ℕ) (arc : Arc) : Type 0 where
@@ -28,7 +28,7 @@ pub record IsUsed (arcs : List Arc) (marks : List Mark) (k : ℕ) (arc : Arc) : 
   pub is_used : slice_get marks k ≡ Some Used
 
 -- two used arcs, one after the other, that start alike
-pub record AreTwins (arcs : List Arc) (marks : List Mark) (a b : ℕ) : Type 0 where
+pub record StartAlike (arcs : List Arc) (marks : List Mark) (a b : ℕ) : Type 0 where
   pub first : Arc
   pub second : Arc
   pub first_is : IsUsed arcs marks a first
@@ -42,9 +42,9 @@ pub record AreUsedBelow (arcs : List Arc) (marks : List Mark) (n : ℕ) (used : 
   pub outs : SameOuts used.cables (used_cables (take n arcs) (take n marks))
   pub few : length used.cables ≤ 256
   pub numbered : (j k : ℕ) → slice_get used.numbers j ≡ Some k → (arc : Arc) × IsUsed arcs marks k arc
-  pub twins : (a b : ℕ) → used.twins ≡ Some (a, b) → AreTwins arcs marks a b
-  pub same : used.twins ≡ None → used.cables ≡ used_cables (take n arcs) (take n marks)
-  pub all : used.twins ≡ None → (k : ℕ) (arc : Arc) → k < n → IsUsed arcs marks k arc → (j : ℕ) × (slice_get used.numbers j ≡ Some k)
+  pub same_start : (a b : ℕ) → used.same_start ≡ Some (a, b) → StartAlike arcs marks a b
+  pub same : used.same_start ≡ None → used.cables ≡ used_cables (take n arcs) (take n marks)
+  pub all : used.same_start ≡ None → (k : ℕ) (arc : Arc) → k < n → IsUsed arcs marks k arc → (j : ℕ) × (slice_get used.numbers j ≡ Some k)
 
 -- all used arcs are gathered
 abbrev pub AreUsed : List Arc → List Mark → UsedList → Type 0

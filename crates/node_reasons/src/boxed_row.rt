@@ -10,9 +10,9 @@ ghost use Rattle.node_reasons.specs.RowBox.{IsBoxedRow, IsArcExtent, IsExtentAt}
 
 use crate::extent::{Extent, added, extent_of_use, greatest_or_none, least_or_none, nothing};
 use crate::own::{further_arcs, points_of};
-use bound_value::{Decisions, Mark};
 use cable_rows::RowPool;
 use candidate_cables::Arcs;
+use node_works::{Decisions, Mark};
 use site_model::Site;
 
 /// A row of a pool in the box of a node, with the largest capacity of the site's cable types, in power units.

@@ -9,10 +9,11 @@ use crate::flows::{find_flow_reason, is_flow_reason};
 use crate::node::NodeBox;
 use crate::pairs::{find_pair, is_used_pair};
 use crate::rows::{cannot_meet, find_row};
-use bound_value::{Decisions, ceiling};
+use arc_choices::ceiling;
 use cable_definitions::row::Why;
 use cable_rows::RowPool;
 use candidate_cables::Arcs;
+use node_works::Decisions;
 use site_model::Site;
 
 /// Whether a bound is above a ceiling.

@@ -8,9 +8,9 @@ ghost use Rattle.cable_definitions.specs.Part.{AreCheapTyped};
 ghost use Rattle.cable_definitions.specs.Tree.{IsFull, used_cables};
 
 use crate::node::NodeBox;
-use bound_value::Decisions;
 use candidate_cables::Arcs;
 use layout_meaning::{CableList, Layout, Verdict, judge_cables, with_cheapest_types};
+use node_works::Decisions;
 use site_model::Site;
 
 impl<'a> NodeBox<'a> {
@@ -19,8 +19,8 @@ impl<'a> NodeBox<'a> {
         ensures typed { IfSome result (AreCheapTyped self.now.site (used_cables self.now.arcs self.now.marks)) }
         ensures none { IfNone result ((cables : List ACable) → ¬ (IsFull self.now.site self.now.arcs self.now.marks cables)) }
     {
-        match self.used.twins() {
-            Some(twins) => None,
+        match self.used.same_start() {
+            Some(pair) => None,
             None => Some(with_cheapest_types(self.site, self.used.cables())),
         }
     }

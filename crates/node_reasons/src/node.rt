@@ -4,8 +4,8 @@ ghost use Rattle.std.specs.Prelude.{◌≡◌, length};
 ghost use Rattle.cable_definitions.specs.Arcs.{AreArcs};
 
 use crate::used::{UsedArcs, used_arcs};
-use bound_value::Decisions;
 use candidate_cables::Arcs;
+use node_works::Decisions;
 use site_model::Site;
 use std::marker::Model;
 

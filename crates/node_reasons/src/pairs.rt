@@ -6,8 +6,8 @@ ghost use Rattle.cable_definitions.specs.Tree.{IsUsedPair};
 ghost use Rattle.node_reasons.specs.Reasons.{AreIncompatibleAt};
 
 use crate::node::NodeBox;
-use bound_value::{Decisions, Mark};
 use candidate_cables::Arcs;
+use node_works::{Decisions, Mark};
 use site_model::Site;
 
 /// Whether an arc is marked used.
@@ -86,8 +86,8 @@ pub(crate) fn find_pair(node: &NodeBox) -> Option<(u32, u32)>
     ensures pair { IfSome result (λ pair. (pair.0 ≢ pair.1) × IsUsedPair node.now.site node.now.arcs node.now.marks pair.0 pair.1) }
     ensures none { IfNone result ((a b : ℕ) → a ≢ b → ¬ (IsUsedPair node.now.site node.now.arcs node.now.marks a b)) }
 {
-    match node.used.twins() {
-        Some(twins) => return Some(twins),
+    match node.used.same_start() {
+        Some(pair) => return Some(pair),
         None => (),
     }
     let numbers = node.used.numbers();

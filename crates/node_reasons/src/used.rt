@@ -4,9 +4,9 @@ ghost use Rattle.std.specs.Prelude.{◌≡◌, ◌+◌, ◌≤◌, ◌<◌, leng
 ghost use Rattle.cable_definitions.specs.Arcs.{AreArcs};
 ghost use Rattle.node_reasons.specs.Used.{AreUsed, AreUsedBelow, IsNextStart};
 
-use bound_value::{Decisions, Mark};
 use candidate_cables::Arcs;
 use layout_meaning::Cable;
+use node_works::{Decisions, Mark};
 use site_model::Site;
 use std::marker::Model;
 
@@ -20,7 +20,7 @@ pub(crate) struct UsedArcs {
     cables: [Cable; MOST_STARTS],
     numbers: [u32; MOST_STARTS],
     count: usize,
-    twins: Option<(u32, u32)>,
+    same_start: Option<(u32, u32)>,
 }
 
 impl Model for UsedArcs {
@@ -29,18 +29,18 @@ impl Model for UsedArcs {
 
     ghost Value = { UsedList };
 
-    ghost view = { λ u. record { cables = take u.count u.cables; numbers = take u.count u.numbers; twins = u.twins } };
+    ghost view = { λ u. record { cables = take u.count u.cables; numbers = take u.count u.numbers; same_start = u.same_start } };
 
     ghost invariant = { λ u. u.count ≤ 256 };
 }
 
 impl UsedArcs {
     ghost use Rattle.std.specs.Prelude.{◌≡◌, ◌<◌, ◌≤◌, length, [], None};
-    ghost use Rattle.node_reasons.specs.Used.{UsedList, with_used, with_twins};
+    ghost use Rattle.node_reasons.specs.Used.{UsedList, with_used, with_same_start};
 
     /// No used arc.
     fn none() -> UsedArcs
-        ensures { result ≡ record { cables = []; numbers = []; twins = None } }
+        ensures { result ≡ record { cables = []; numbers = []; same_start = None } }
     {
         let none = Cable {
             from: 0,
@@ -51,7 +51,7 @@ impl UsedArcs {
             cables: [none; MOST_STARTS],
             numbers: [0; MOST_STARTS],
             count: 0,
-            twins: None,
+            same_start: None,
         }
     }
 
@@ -71,10 +71,10 @@ impl UsedArcs {
     }
 
     /// Two used arcs that start alike.
-    pub(crate) fn twins(&self) -> Option<(u32, u32)>
-        ensures { result ≡ self.now.twins }
+    pub(crate) fn same_start(&self) -> Option<(u32, u32)>
+        ensures { result ≡ self.now.same_start }
     {
-        self.twins
+        self.same_start
     }
 
     /// Adds the cable of an arc.
@@ -92,17 +92,17 @@ impl UsedArcs {
 
     /// Notes two arcs that start alike.
     fn note(&mut self, first: u32, second: u32)
-        ensures { self.new ≡ with_twins self.old first second }
+        ensures { self.new ≡ with_same_start self.old first second }
     {
-        self.twins = Some((first, second));
+        self.same_start = Some((first, second));
     }
 }
 
 /// The number of the used arc that was gathered last, and the number past its start.
 #[derive(Clone, Copy)]
 struct Latest {
-    last: u32,
-    next: u32,
+    arc: u32,
+    past_start: u32,
 }
 
 /// Gathers an arc if it is used.
@@ -118,9 +118,9 @@ fn gather(
     requires count { length decisions.now ≡ length arcs.now }
     requires number { number < length arcs.now }
     requires used { AreUsedBelow arcs.now decisions.now number used.old }
-    requires next { IsNextStart arcs.now decisions.now number used.old latest.last latest.next }
+    requires next { IsNextStart arcs.now decisions.now number used.old latest.arc latest.past_start }
     ensures used { AreUsedBelow arcs.now decisions.now (number + 1) used.new }
-    ensures next { IsNextStart arcs.now decisions.now (number + 1) used.new result.last result.next }
+    ensures next { IsNextStart arcs.now decisions.now (number + 1) used.new result.arc result.past_start }
 {
     match decisions.mark(number) {
         Mark::Free => return latest,
@@ -129,8 +129,8 @@ fn gather(
     }
     let _valid = site.points();
     let arc = arcs.get(number);
-    if arc.from < latest.next {
-        used.note(latest.last, number);
+    if arc.from < latest.past_start {
+        used.note(latest.arc, number);
         return latest;
     }
     let cable = Cable {
@@ -140,8 +140,8 @@ fn gather(
     };
     used.push(number, cable);
     Latest {
-        last: number,
-        next: arc.from + 1,
+        arc: number,
+        past_start: arc.from + 1,
     }
 }
 
@@ -152,7 +152,10 @@ pub(crate) fn used_arcs(site: &Site, arcs: &Arcs, decisions: &Decisions) -> Used
     ensures { AreUsed arcs.now decisions.now result }
 {
     let mut used = UsedArcs::none();
-    let mut latest = Latest { last: 0, next: 0 };
+    let mut latest = Latest {
+        arc: 0,
+        past_start: 0,
+    };
     for number in 0..arcs.len() {
         latest = gather(site, arcs, decisions, number, &mut used, latest);
     }

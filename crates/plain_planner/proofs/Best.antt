@@ -12,7 +12,13 @@ use Rattle.cable_definitions.specs.declared.site.Point.{Point}
 use Rattle.cable_definitions.specs.Site.{Site}
 use Rattle.cable_definitions.specs.Layout.{IsLegal, cost, Least, HasNone}
 use Rattle.plain_planner.proofs.Completeness.{completeness}
-use Rattle.plain_planner.specs.Choices.{cable_to, ChoiceAt, IsOneEach, Completes, CompletesBelow, IsBestTried, cheaper}
+use Rattle.plain_planner.specs.Choices.{cable_to, ChoiceAt, IsOneEach, Completes, IsBestTried, cheaper}
+
+-- the list is these cables, then one from p to a point below the bound, and then one for each turbine after p
+pub record CompletesBelow (s : Site) (chosen : List Cable) (p bound : ℕ) (cables : List Cable) : Type 0 where
+  pub to : ℕ
+  pub below : to < bound
+  pub completes : Completes s (chosen ++ cable_to p to ∷ []) (p + 1) cables
 
 -- what is best of more lists is best of fewer
 pub best_weaker : (s : Site) (P Q : List Cable → Type 0) (best : Option (List Cable × ℕ)) → ((cables : List Cable) → P cables → Q cables) → IsBestTried s Q best → IsBestTried s P best

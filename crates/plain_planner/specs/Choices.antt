@@ -33,12 +33,6 @@ pub record Completes (s : Site) (chosen : List Cable) (p : ℕ) (cables : List C
   pub choice : IsOneEach s p (drop p s.points) rest
   pub joined : cables ≡ chosen ++ rest
 
--- the list is these cables, then one from p to a point below the bound, and then one for each turbine after p
-pub record CompletesBelow (s : Site) (chosen : List Cable) (p bound : ℕ) (cables : List Cable) : Type 0 where
-  pub to : ℕ
-  pub below : to < bound
-  pub completes : Completes s (chosen ++ cable_to p to ∷ []) (p + 1) cables
-
 -- a legal layout in ascending order of start, with its cost, which no legal list of those that were tried undercuts
 pub record IsBestOf (s : Site) (Tried : List Cable → Type 0) (layout : List Cable) (best_cost : ℕ) : Type 0 where
   pub legal : IsLegal s layout

@@ -1,6 +1,6 @@
 -- The lines of a report, and its parts.
 use Rattle.std.proofs.Common.{◌≡◌, ℕ, List, [], ◌∷◌, ◌++◌, length, map, refl, sym, ap, ◌∙◌}
-use Rattle.std.specs.Prelude.{codes, sum_by, slice_get}
+use Rattle.std.specs.Prelude.{codes, sum_by}
 use Rattle.std.specs.List.{concat, enumerate_from, flat_map}
 use Rattle.std.specs.Fmt.{decimal}
 use Rattle.cable_definitions.specs.declared.cable.Cable.{Cable}
@@ -9,7 +9,7 @@ use Rattle.cable_definitions.specs.declared.site.CableType.{CableType}
 use Rattle.cable_definitions.specs.declared.site.Point.{Point}
 use Rattle.cable_definitions.specs.Site.{Site}
 use Rattle.cable_definitions.specs.Walk.{load}
-use Rattle.cable_definitions.specs.Text.{line, mode_line, name_of, name_from, claim_line}
+use Rattle.cable_definitions.specs.Text.{line, mode_line, name_of, claim_line}
 use Rattle.layout_meaning.specs.Partial.{SitePart}
 use Rattle.cable_definitions.specs.Report.{left_in, right_in, cable_length, cable_cost, of_type, report_cable, report_type, report_point, report_text}
 
@@ -18,10 +18,6 @@ pub type_words : (s : Site) (cables : List Cable) (t : ℕ) (number count metres
     → metres ≡ decimal (sum_by (cable_length s) (of_type cables t)) → cost ≡ decimal (sum_by (cable_cost s cables) (of_type cables t))
     → report_type s cables t ≡ line (codes "type" ∷ number ∷ codes "cables" ∷ count ∷ codes "length" ∷ metres ∷ codes "cost" ∷ cost ∷ [])
 type_words s cables t number count metres cost a b c d = rw (a, b, c, d) refl
-
--- a name that is read from the points is that of its number
-pub name_read : (s : Site) (points : List Point) (p : ℕ) (name : List ℕ) → points ≡ s.points → name ≡ name_from (slice_get points p) → name ≡ name_of s p
-name_read s points p name e h = h ∙ ap (λ (xs : List Point). name_from (slice_get xs p)) e
 
 -- the line of a cable, with its columns one by one
 pub cable_columns : (s : Site) (cables : List Cable) (c : Cable) (from to : List ℕ) (grade metres carried cost : ℕ) → from ≡ name_of s c.from → to ≡ name_of s c.to → grade ≡ c.grade

@@ -4,7 +4,7 @@ use Rattle.std.specs.List.{concat, enumerate_from}
 use Rattle.std.proofs.lemmas.List.{take_all}
 use Rattle.std.proofs.lemmas.List.FromFn.{length-enumerate_from, get_or-enumerate_from}
 use Rattle.cable_text.specs.declared.stream.Failed.{Failed}
-use Rattle.cable_text.specs.Stream.{StreamState, Writes}
+use Rattle.cable_definitions.specs.Stream.{StreamState, Writes}
 use Rattle.cable_text.proofs.Writers.{wrote_more, wrote_part, written_as}
 
 -- what the item at a number writes

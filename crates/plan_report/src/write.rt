@@ -1,10 +1,12 @@
+//! The lines of a report, written.
+
 ghost use Rattle.std.specs.Prelude.{◌≡◌, ◌∷◌, [], ◌≤◌, ◌<◌, length, map, All, codes};
 ghost use Rattle.std.specs.List.{concat, enumerate_from};
 ghost use Rattle.std.specs.Fmt.{decimal};
 ghost use Rattle.cable_definitions.specs.Arcs.{IsPoint};
 ghost use Rattle.cable_definitions.specs.Report.{report_text, report_cable, report_type, report_point};
 ghost use Rattle.cable_definitions.specs.Text.{mode_line, claim_line};
-ghost use Rattle.cable_text.specs.Stream.{Writes};
+ghost use Rattle.cable_definitions.specs.Stream.{Writes};
 ghost use Rattle.cable_text.specs.Fields.{field_text};
 ghost use Rattle.site_text.specs.Verdict.{NamesPoint};
 ghost use Rattle.plan_report.specs.Reported.{IsReported};
@@ -14,7 +16,7 @@ use cable_definitions::claim::Claim;
 use cable_text::{Failed, Field, Sink, count_of, push_line};
 use layout_meaning::{Cable, Flows, Layout, Outgoing};
 use site_model::{Kind, Mode, Point, Site};
-use site_text::{name_of, write_verdict};
+use site_text::write_verdict;
 
 /// Appends the report of a layout and a claim: the mode; for each cable its ends by name, its type, its
 /// length in metres, its load in power units and its cost; for each type how many cables have it, with
@@ -71,9 +73,8 @@ fn push_cable<O: Sink>(flows: &Flows, cable: Cable, out: &mut O) -> Result<(), F
     ensures { Writes result (O.state out.old) (O.state out.new) (report_cable flows.now.site flows.now.cables cable) }
 {
     let site = flows.site();
-    let points = site.points();
-    let from = name_of(points, cable.from);
-    let to = name_of(points, cable.to);
+    let from = site.name(cable.from);
+    let to = site.name(cable.to);
     let metres = cable_length(site, cable);
     let carried = flows.load(cable.from);
     let cost = cable_cost(flows, cable);

@@ -1,3 +1,6 @@
+//! Plans of small farms, beside the cheapest of all choices.
+
+use crate::cables::Cables;
 use cable_text::{MemorySink, Sink, push_number};
 use plain_planner::{cheapest_layout, is_plain};
 use run_support::ran_with;
@@ -78,7 +81,7 @@ fn the_search_finds_what_all_choices_show(rt: HostRuntime) -> Result<(), AllocEr
         }
         let mut lines = MemorySink::new(alloc, 1024, Vec::new(alloc))?;
         let _ = write_site(&site, &mut lines);
-        let plan = ran_with(alloc, &["plan", "1023"], lines.taken(), &[], &[], &[])?;
+        let plan = ran_with::<Cables>(alloc, &["plan", "1023"], lines.taken(), &[], &[], &[])?;
         match cheapest_layout(alloc, &site)? {
             Some((_, cost)) => {
                 let end = optimal_end(alloc, cost)?;

@@ -2,6 +2,8 @@
 #![tactic(auto)]
 
 #[cfg(test)]
+mod cables;
+#[cfg(test)]
 mod compared;
 #[cfg(test)]
 mod drills;

@@ -1,4 +1,7 @@
-use run_support::{FIRST, FORK, Ran, ran_with, run_on};
+//! Plans of small sites, and how each ends.
+
+use crate::cables::Cables;
+use run_support::{FIRST, FORK, ONE_FEEDER, Ran, ran_with, run_on};
 use std::alloc::{AllocError, Global};
 
 /// What a plan of the first site is.
@@ -90,22 +93,14 @@ const PLANS: [(&str, u8, &str); 28] = [
         0,
         "optimal 2100\n",
     ),
-    (
-        "site 1\nmode tree\ntype 200 1\nsubstation S 0 0 1 10000\nturbine A 0 1000 100\nturbine B 1000 0 100\nturbine C 1000 1000 100\nend site\n",
-        5,
-        "layout 0\ninfeasible\n",
-    ),
+    (ONE_FEEDER, 5, "layout 0\ninfeasible\n"),
     // The same with four feeders: three turbines need two cables into the substation.
     (
         "site 1\nmode tree\ntype 200 1\nsubstation S 0 0 4 10000\nturbine A 0 1000 100\nturbine B 1000 0 100\nturbine C 1000 1000 100\nend site\n",
         0,
         "optimal 3000\n",
     ),
-    (
-        "site 1\nmode tree\ntype 400 1\nsubstation S 0 0 4 250\nturbine A 0 1000 100\nturbine B 1000 0 100\nturbine C 1000 1000 100\nend site\n",
-        5,
-        "layout 0\ninfeasible\n",
-    ),
+    (SQUARE, 5, "layout 0\ninfeasible\n"),
     (
         "site 1\nmode tree\ntype 400 1\nsubstation S 1000000 1000000 4 10000\nturbine A -1000000 -1000000 100\nend site\n",
         0,
@@ -217,7 +212,7 @@ fn ends_with(bytes: &[u8], text: &str) -> bool {
 
 /// Runs `plan 1023` on a site.
 fn planned(alloc: Global, input: &str) -> Result<Ran, AllocError> {
-    run_on(alloc, &["plan", "1023"], input)
+    run_on::<Cables>(alloc, &["plan", "1023"], input)
 }
 
 #[test]
@@ -247,7 +242,7 @@ fn each_plan_passes_its_check(rt: HostRuntime) -> Result<(), AllocError> {
     let alloc = rt.alloc();
     for (site, _status, _end) in PLANS {
         let plan = planned(alloc, site)?;
-        let check = ran_with(alloc, &["check"], plan.out.as_slice(), &[], &[], &[])?;
+        let check = ran_with::<Cables>(alloc, &["check"], plan.out.as_slice(), &[], &[], &[])?;
         assert_eq!(rt; check.status, 0, "{site}");
         assert!(rt; check.out.starts_with(b"yes "), "{site}");
     }
@@ -258,10 +253,10 @@ fn each_plan_passes_its_check(rt: HostRuntime) -> Result<(), AllocError> {
 fn a_small_budget_leaves_a_gap_or_a_part(rt: HostRuntime) -> Result<(), AllocError> {
     let alloc = rt.alloc();
     for (site, budget, status, end) in SHORT_PLANS {
-        let plan = run_on(alloc, &["plan", budget], site)?;
+        let plan = run_on::<Cables>(alloc, &["plan", budget], site)?;
         assert_eq!(rt; plan.status, status, "{site}");
         assert!(rt; ends_with(plan.out.as_slice(), end), "{site}");
-        let check = ran_with(alloc, &["check"], plan.out.as_slice(), &[], &[], &[])?;
+        let check = ran_with::<Cables>(alloc, &["check"], plan.out.as_slice(), &[], &[], &[])?;
         assert_eq!(rt; check.status, 0, "{site}");
     }
     Ok(())

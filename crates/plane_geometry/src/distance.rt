@@ -22,8 +22,8 @@ pub fn length(a: Place, b: Place) -> u32
     }
 }
 
-// The whole part of the square root. Heron's guess is right for nearly every distance of a site,
-// and the comparison says so; the bisection, which takes longer, serves where it isn't.
+/// The whole part of the square root. Heron's guess is right for nearly every distance of a site,
+/// and the comparison says so; the bisection, which takes longer, serves where it isn't.
 fn whole_root(square: u64) -> u64
     ensures not_above { result * result ≤ square }
     ensures next_above { square < (result + 1) * (result + 1) }
@@ -37,8 +37,8 @@ fn whole_root(square: u64) -> u64
     }
 }
 
-// A guess at the whole part of the square root: a power of two near the root, and four of Heron's
-// steps, the first of which needs no division.
+/// A guess at the whole part of the square root: a power of two near the root, and four of Heron's
+/// steps, the first of which needs no division.
 fn guessed_root(square: u64) -> u64 {
     let half = (64 - square.leading_zeros()) / 2;
     let mut guess = (1_u64 << half).wrapping_add(square >> half) / 2;

@@ -15,7 +15,7 @@ pub record CheckerState : Type 0 where
   pub site : Site
   pub arcs : List Arc
   pub budget : ℕ
-  pub kept : ProofState
+  pub state : ProofState
   pub refused : Option Refusal
 
 -- what these rows and this tree keep

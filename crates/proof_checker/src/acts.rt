@@ -4,11 +4,11 @@ ghost use Rattle.std.specs.Prelude.{◌≡◌, ◌^◌, ◌↔◌, pos, nat_abs,
 ghost use Rattle.cable_definitions.specs.Tree.{ceiling as ceiling_of};
 ghost use Rattle.proof_checker.specs.Acts.{MayAct, MayNotAct};
 
-use bound_value::{Decisions, Mark};
 use cable_definitions::claim::Cause;
 use cable_definitions::row::{Act, Why};
 use cable_rows::RowPool;
 use node_reasons::NodeBox;
+use node_works::{Decisions, Mark};
 
 /// Whether the number is that of an arc that is free.
 fn is_free(decisions: &Decisions, arc: u32) -> bool

@@ -1,3 +1,5 @@
+//! The check of a document as a state: rows and works are fed one by one, and the claim at the end.
+
 ghost use Rattle.std.specs.Prelude.{◌≡◌, ℕ, ◌≤◌, List, [], None, Some, IfOk, OnOk, IfErr};
 ghost use Rattle.cable_definitions.specs.declared.claim.Cause.{Cause as AnyCause};
 ghost use Rattle.cable_definitions.specs.Arcs.{AreArcs};
@@ -10,13 +12,14 @@ ghost use Rattle.proof_checker.specs.Answers.{IsClosingBound};
 use crate::claims::{Bound, check_claim};
 use crate::rows::list_row;
 use crate::works::do_work;
-use bound_value::{Decisions, Work, ceiling};
+use arc_choices::ceiling;
 use branch_tree::Tree;
 use cable_definitions::claim::{Cause, Claim, Refusal};
 use cable_definitions::row::RowKind;
 use cable_rows::RowPool;
 use candidate_cables::Arcs;
 use layout_meaning::Layout;
+use node_works::{Decisions, Work};
 use site_model::Site;
 use std::alloc::{AllocError, Global};
 use std::marker::Model;
@@ -41,7 +44,7 @@ impl<'a> Model for Checker<'a> {
 
     ghost Value = { CheckerState };
 
-    ghost view = { λ c. record { site = c.site.now; arcs = c.arcs; budget = c.budget; kept = kept_from c.pool c.tree; refused = c.refused } };
+    ghost view = { λ c. record { site = c.site.now; arcs = c.arcs; budget = c.budget; state = kept_from c.pool c.tree; refused = c.refused } };
 
     ghost invariant = { λ c. IsChecker c.site.now c.arcs c.budget c.ceiling c.tree (length c.decisions) };
 }
@@ -68,7 +71,7 @@ impl<'a> Checker<'a> {
         ensures site { IfOk result (λ checker. checker.site ≡ site.now) }
         ensures arcs { IfOk result (λ checker. AreArcs site.now checker.arcs) }
         ensures budget { IfOk result (λ checker. checker.budget ≡ budget) }
-        ensures kept { IfOk result (λ checker. checker.kept ≡ empty_state) }
+        ensures state { IfOk result (λ checker. checker.state ≡ empty_state) }
         ensures refused { IfOk result (λ checker. checker.refused ≡ None) }
     {
         let arcs = Arcs::new(alloc, site)?;
@@ -96,14 +99,14 @@ impl<'a> Checker<'a> {
     /// the row isn't well formed, else `Limit` where 16,384 rows are listed or the members of all rows with these would be more than
     /// 1,048,576.
     pub fn feed_row(&mut self, line: u64, kind: RowKind, members: &[u32]) -> Result<(), Refusal>
-        ensures accepted { OnOk result (Accepts self.old.site self.old.arcs self.old.budget self.old.kept
-            (RowItem (record { kind = kind; members = members.now })) self.new.kept) }
+        ensures accepted { OnOk result (Accepts self.old.site self.old.arcs self.old.budget self.old.state
+            (RowItem (record { kind = kind; members = members.now })) self.new.state) }
         ensures no_cause { OnOk result ((cause : AnyCause)
-            → ¬ (IsRowRefused self.old.site self.old.arcs self.old.kept (record { kind = kind; members = members.now }) cause)) }
-        ensures stays { OnOk result (self.new ≡ record self.old { kept = self.new.kept }) }
+            → ¬ (IsRowRefused self.old.site self.old.arcs self.old.state (record { kind = kind; members = members.now }) cause)) }
+        ensures stays { OnOk result (self.new ≡ record self.old { state = self.new.state }) }
 
         ensures refused { self.old.refused ≡ None → IfErr result (Refuses self.old self.new line
-            (IsRowRefused self.old.site self.old.arcs self.old.kept (record { kind = kind; members = members.now }))) }
+            (IsRowRefused self.old.site self.old.arcs self.old.state (record { kind = kind; members = members.now }))) }
         ensures again { (refusal : AnyRefusal) → self.old.refused ≡ Some refusal → (result ≡ Err refusal) × (self.new ≡ self.old) }
     {
         if let Some(refusal) = self.refused {
@@ -125,14 +128,14 @@ impl<'a> Checker<'a> {
     /// split names no arc that is free; `Dead` where the reason isn't true of the node with its new bound; `Full` where the node isn't
     /// full.
     pub fn feed_work(&mut self, line: u64, work: &Work) -> Result<(), Refusal>
-        ensures accepted { OnOk result (Accepts self.old.site self.old.arcs self.old.budget self.old.kept
-            (WorkItem work.now.node work.now.weights work.now.act) self.new.kept) }
+        ensures accepted { OnOk result (Accepts self.old.site self.old.arcs self.old.budget self.old.state
+            (WorkItem work.now.node work.now.weights work.now.act) self.new.state) }
         ensures no_cause { OnOk result ((cause : AnyCause)
-            → ¬ (IsWorkRefused self.old.site self.old.arcs self.old.budget self.old.kept work.now.node work.now.weights work.now.act cause)) }
-        ensures stays { OnOk result (self.new ≡ record self.old { kept = self.new.kept }) }
+            → ¬ (IsWorkRefused self.old.site self.old.arcs self.old.budget self.old.state work.now.node work.now.weights work.now.act cause)) }
+        ensures stays { OnOk result (self.new ≡ record self.old { state = self.new.state }) }
 
         ensures refused { self.old.refused ≡ None → IfErr result (Refuses self.old self.new line
-            (IsWorkRefused self.old.site self.old.arcs self.old.budget self.old.kept work.now.node work.now.weights work.now.act)) }
+            (IsWorkRefused self.old.site self.old.arcs self.old.budget self.old.state work.now.node work.now.weights work.now.act)) }
         ensures again { (refusal : AnyRefusal) → self.old.refused ≡ Some refusal → (result ≡ Err refusal) × (self.new ≡ self.old) }
     {
         if let Some(refusal) = self.refused {
@@ -163,15 +166,15 @@ impl<'a> Checker<'a> {
     /// `Verdict` where the claim disagrees with the least bound, or a gap has a bound that isn't below its cost, or a gap or a part has works
     /// that aren't as many as the budget.
     pub fn close(&mut self, line: u64, layout: &Layout, claim: Claim) -> Result<Bound, Refusal>
-        ensures agrees { OnOk result (Agrees self.old.site self.old.budget self.old.kept layout.now claim) }
-        ensures bound { IfOk result (IsClosingBound self.old.kept) }
-        ensures says { OnOk result ((items : List Item) → IsAccepted self.old.site self.old.arcs self.old.budget items self.old.kept
+        ensures agrees { OnOk result (Agrees self.old.site self.old.budget self.old.state layout.now claim) }
+        ensures bound { IfOk result (IsClosingBound self.old.state) }
+        ensures says { OnOk result ((items : List Item) → IsAccepted self.old.site self.old.arcs self.old.budget items self.old.state
             → Says self.old.site claim) }
-        ensures no_cause { OnOk result ((cause : AnyCause) → ¬ (IsClaimRefused self.old.site self.old.budget self.old.kept layout.now claim cause)) }
+        ensures no_cause { OnOk result ((cause : AnyCause) → ¬ (IsClaimRefused self.old.site self.old.budget self.old.state layout.now claim cause)) }
         ensures stays { OnOk result (self.new ≡ self.old) }
 
         ensures refused { self.old.refused ≡ None → IfErr result (Refuses self.old self.new line
-            (IsClaimRefused self.old.site self.old.budget self.old.kept layout.now claim)) }
+            (IsClaimRefused self.old.site self.old.budget self.old.state layout.now claim)) }
         ensures again { (refusal : AnyRefusal) → self.old.refused ≡ Some refusal → (result ≡ Err refusal) × (self.new ≡ self.old) }
     {
         if let Some(refusal) = self.refused {

@@ -1,4 +1,5 @@
-//! A document's items checked one by one, and its claim at the end.
+//! A document's items checked one by one, and its claim at the end. A document is a certificate: it is checked without trust in who
+//! made it, as in VIPR (Cheung, Gleixner and Steffy, 2017).
 #![tactic(auto)]
 
 mod acts;

@@ -6,17 +6,19 @@ ghost use Rattle.cable_definitions.specs.Arcs.{AreArcs};
 ghost use Rattle.cable_definitions.specs.Choice.{AreLawful, IsValue};
 ghost use Rattle.cable_definitions.specs.Tree.{Node, node_of, marks_of, IsBound, IsWorked, ceiling as ceiling_of};
 ghost use Rattle.cable_definitions.specs.Refusal.{IsWorkRefused, IsLeastCause};
-ghost use Rattle.branch_tree.specs.State.{tree_after, IsMade, IsUnworked, ActIsWithin};
+ghost use Rattle.proof_laws.specs.WorksLeft.{IsUnworked};
+ghost use Rattle.branch_tree.specs.State.{tree_after, IsMade, ActIsWithin};
 ghost use Rattle.proof_checker.specs.State.{kept_from};
 
 use crate::acts::bound_after;
-use bound_value::{Decisions, Work, lawful, rounded_bound, weigh};
+use bound_value::{lawful, rounded_bound, weigh};
 use branch_tree::Tree;
 use cable_definitions::claim::Cause;
 use cable_definitions::row::Act;
 use cable_rows::RowPool;
 use candidate_cables::Arcs;
 use node_reasons::NodeBox;
+use node_works::{Decisions, Work};
 use site_model::Site;
 
 /// Marks each arc as a node that was made decides it.

@@ -42,7 +42,5 @@ pub mod NearestValue
 pub mod Rising
 -- one weight on the row of each turbine
 pub mod TurbineWeights
--- a site of few points has few candidate arcs
-pub mod FewArcs
 -- sums of extremes over the choices of each arc
 pub mod Extremes

@@ -1,10 +1,14 @@
--- How many works the unworked nodes of a tree can still take.
-use Rattle.std.specs.Prelude.{ℕ, ◌+◌, ◌-◌, ◌^◌, List, Bool, true, false, sum_by, count_by}
+-- The nodes of a tree that aren't worked, and how many works they can still take.
+use Rattle.std.specs.Prelude.{◌≡◌, ℕ, ◌+◌, ◌-◌, ◌^◌, List, Some, Bool, true, false, sum_by, count_by}
 use Rattle.std.specs.List.{enumerate_from}
 use Rattle.cable_definitions.specs.declared.cable.Arc.{Arc}
 use Rattle.cable_definitions.specs.declared.row.Mark.{Mark}
 use Rattle.cable_definitions.specs.declared.row.Mark.TheVariants.{Free, Used, Unused}
-use Rattle.cable_definitions.specs.Tree.{Status, Unworked, WasSplit, Stopped, WasDead, WasFull, Node, marks_of}
+use Rattle.cable_definitions.specs.Tree.{Status, Unworked, WasSplit, Stopped, WasDead, WasFull, Node, node_of, marks_of}
+
+-- node number v was made and isn't worked
+abbrev pub IsUnworked : List Node → ℕ → Type 0
+IsUnworked nodes v = (node : Node) × (node_of nodes v ≡ Some node) × (node.status ≡ Unworked)
 
 -- whether a mark leaves the arc free
 abbrev pub is_free : Mark → Bool

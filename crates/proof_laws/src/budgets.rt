@@ -1,6 +1,6 @@
 //! Budgets of works.
 
-ghost use Rattle.std.specs.Prelude.{◌≡◌, ◌+◌, ◌<◌, ◌≤◌, ℕ, List, Some, length};
+ghost use Rattle.std.specs.Prelude.{◌≡◌, ◌+◌, ◌<◌, ◌≤◌, ℕ, List, Some};
 ghost use Rattle.cable_definitions.specs.declared.cable.Arc.{Arc};
 ghost use Rattle.cable_definitions.specs.Site.{Site, IsValid};
 ghost use Rattle.cable_definitions.specs.Arcs.{AreArcs};
@@ -16,9 +16,4 @@ pub fn works_stay_within_enough()
     ensures below { (s : Site) (arcs : List Arc) (n : ℕ) (items : List Item) (kept : ProofState) → IsValid s → AreArcs s arcs
         → IsAccepted s arcs n items kept → (v : ℕ) (node : Node) → node_of kept.nodes v ≡ Some node → node.status ≡ Unworked
         → kept.works < enough_budget arcs }
-{}
-
-/// A site of at most four points has at most twelve candidate arcs, so 8,191 works are always enough for it.
-pub fn few_points_need_few_works()
-    ensures { (s : Site) (arcs : List Arc) → AreArcs s arcs → length s.points ≤ 4 → enough_budget arcs ≤ 8191 }
 {}

@@ -1,21 +1,23 @@
+//! The budget, rows, works, cables and the verdict of a document, each as its lines.
+
 ghost use Rattle.std.specs.Prelude.{◌≡◌, ◌∷◌, [], ◌++◌, ◌<◌, length, map, codes, All, slice_get};
 ghost use Rattle.std.specs.List.{concat};
 ghost use Rattle.std.specs.Fmt.{decimal};
 ghost use Rattle.cable_definitions.specs.Text.{line, cable_line, claim_line, row_line, weight_line, act_line, why_words, item_lines};
 ghost use Rattle.cable_definitions.specs.Tree.{WorkItem};
-ghost use Rattle.cable_text.specs.Stream.{Writes};
+ghost use Rattle.cable_definitions.specs.Stream.{Writes};
 ghost use Rattle.cable_text.specs.Fields.{field_text};
 ghost use Rattle.site_text.specs.Verdict.{NamesPoint};
 ghost use Rattle.proof_lines.specs.Written.{EndsAtPoints, layout_lines, spaced_number};
 
-use bound_value::Work;
 use cable_definitions::cable::Cable;
 use cable_definitions::claim::Claim;
 use cable_definitions::row::{Act, RowKind, Why};
 use cable_text::{Failed, Field, LineBuffer, Sink, count_of, push_line, push_number};
 use layout_meaning::Layout;
+use node_works::Work;
 use site_model::Site;
-use site_text::{name_of, write_verdict};
+use site_text::write_verdict;
 
 /// Appends the line `budget N` of a document.
 ///
@@ -68,9 +70,8 @@ fn push_cable<O: Sink>(site: &Site, cable: Cable, out: &mut O) -> Result<(), Fai
     requires { EndsAtPoints site.now cable }
     ensures { Writes result (O.state out.old) (O.state out.new) (cable_line site.now cable) }
 {
-    let points = site.points();
-    let from = Field::Word(name_of(points, cable.from));
-    let to = Field::Word(name_of(points, cable.to));
+    let from = Field::Word(site.name(cable.from));
+    let to = Field::Word(site.name(cable.to));
     push_line(b"cable", &[from, to, count_of(u64::from(cable.grade))], out)
 }
 

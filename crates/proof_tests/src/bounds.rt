@@ -1,10 +1,14 @@
+//! The ceiling of a site, and the values of weights in nodes.
+
 ghost use Rattle.std.specs.Prelude.{◌≡◌, ◌<◌, length};
 ghost use Rattle.cable_definitions.specs.Arcs.{AreArcs};
 
 use crate::tables::{list, listed, marked};
-use bound_value::{Decisions, Mark, Weights, ceiling, lawful, least_choice, rounded_bound, weigh};
+use arc_choices::{ceiling, least_choice};
+use bound_value::{lawful, rounded_bound, weigh};
 use cable_rows::{RowKind, RowPool};
 use candidate_cables::Arcs;
+use node_works::{Decisions, Mark, Weights};
 use sample_sites::{FORK, site_of};
 use site_model::Site;
 use std::alloc::Global;

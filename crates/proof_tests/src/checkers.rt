@@ -1,10 +1,12 @@
+//! Documents that are fed to a checker, and what it answers to their claims.
+
 ghost use Rattle.std.specs.Prelude.{◌≤◌};
 
-use bound_value::{Weights, Work};
 use branch_tree::{Act, Why};
 use cable_definitions::claim::Refusal;
 use cable_definitions::row::RowKind;
 use layout_meaning::{Cable, Layout};
+use node_works::{Weights, Work};
 use proof_checker::{Bound, Cause, Checker, Claim};
 use sample_sites::{FIRST, ONE_FEEDER, site_of};
 use site_model::Site;

@@ -1,3 +1,5 @@
+//! Documents as texts, accepted or refused with a cause and a line.
+
 use cable_definitions::claim::{Cause, Claim, Refusal};
 use cable_text::{Lines, MemorySource};
 use document_check::{DocumentFault, read_document};

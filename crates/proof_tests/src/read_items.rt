@@ -1,3 +1,5 @@
+//! The items of a document, read from lines.
+
 use cable_definitions::claim::{Cause, Claim, Refusal};
 use cable_definitions::row::{Act, RowKind};
 use cable_text::{Lines, MemorySource};

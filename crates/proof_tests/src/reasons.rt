@@ -1,9 +1,11 @@
+//! Dead nodes with their reasons, and the layout of a full node.
+
 use crate::tables::{listed, marked};
-use bound_value::Mark;
 use cable_rows::RowKind;
 use candidate_cables::Arcs;
 use layout_meaning::{Cable, Layout};
 use node_reasons::{Why, find_dead, full_layout, is_dead, is_full};
+use node_works::Mark;
 use sample_sites::{FORK, site_of};
 use std::alloc::Global;
 use std::test::Fail;

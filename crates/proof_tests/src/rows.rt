@@ -1,3 +1,5 @@
+//! The form, the sides and the coefficients of rows.
+
 ghost use Rattle.cable_definitions.specs.Arcs.{AreArcs};
 
 use crate::tables::listed;

@@ -3,9 +3,9 @@
 ghost use Rattle.std.specs.Prelude.{◌≡◌, length, IfOk};
 ghost use Rattle.cable_definitions.specs.Arcs.{AreArcs};
 
-use bound_value::{Decisions, Mark};
 use cable_rows::{RowKind, RowPool, row_form};
 use candidate_cables::Arcs;
+use node_works::{Decisions, Mark};
 use site_model::Site;
 use std::alloc::{AllocError, Global};
 use std::test::Fail;

@@ -1,3 +1,5 @@
+//! Works on a tree, done or refused.
+
 use branch_tree::{Act, Tree, TreeFault};
 use std::test::Fail;
 

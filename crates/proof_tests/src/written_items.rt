@@ -1,6 +1,8 @@
-use bound_value::{Weights, Work};
+//! The items of a document, written as lines.
+
 use cable_definitions::row::{Act, RowKind};
 use cable_text::MemorySink;
+use node_works::{Weights, Work};
 use proof_lines::*;
 use std::test::Fail;
 

@@ -13,7 +13,7 @@ use Rattle.cable_definitions.specs.Text.{line, act_line, kind_word, row_line, Wh
 use Rattle.cable_definitions.specs.Items.{Field, IsWithin, within}
 use Rattle.cable_definitions.specs.Refusal.{RawAct, ASplit, AStop, AFull, ADeadRow, ADeadPair, ADeadLoad, ADeadLoop, ADeadPower, ADeadCeiling, act_spelling, act_from, act_fields, DocLine, RowLine, WorkLine, ActLine, LayoutLine, member_field, AtItem, AtWeights, AtCables, after_layout}
 use Rattle.cable_text.proofs.Numerals.{numeral-decimal}
-use Rattle.cable_text.specs.Stream.{GivesFront}
+use Rattle.cable_definitions.specs.Stream.{GivesFront}
 use Rattle.cable_text.specs.Lines.{StandsNext}
 use Rattle.line_words.specs.declared.judging.ItemLine.{ItemLine}
 use Rattle.line_words.specs.declared.judging.ItemLine.TheVariants.{Row, Work, Layout}

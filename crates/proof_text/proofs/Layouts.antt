@@ -9,7 +9,7 @@ use Rattle.cable_definitions.specs.declared.cable.Cable.{Cable}
 use Rattle.cable_definitions.specs.Site.{Site}
 use Rattle.cable_definitions.specs.Text.{cable_line}
 use Rattle.cable_definitions.specs.Refusal.{DocLine, Reader}
-use Rattle.cable_text.specs.Stream.{GivesFront}
+use Rattle.cable_definitions.specs.Stream.{GivesFront}
 use Rattle.proof_text.specs.declared.fault.ItemFault.{ItemFault}
 use Rattle.proof_text.specs.declared.fault.ItemFault.TheVariants.{Refused, Read}
 use Rattle.proof_text.specs.Reading.{line_number_after, ReadsTo, RefusedAfter, IfRefused}

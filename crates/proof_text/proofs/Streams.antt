@@ -8,7 +8,7 @@ use Rattle.cable_definitions.specs.declared.claim.Cause.TheVariants.{Line as Lin
 use Rattle.cable_definitions.specs.Site.{Site}
 use Rattle.cable_definitions.specs.Text.{words, line, Piece, Whole, LongLine, CutLine, NoLine}
 use Rattle.cable_definitions.specs.Refusal.{DocLine, line_spelling, Phase, Reader, IsReadable, IsFoundByReading, IsFoundByFeeding, IsLeastCause, GoesOn, NamesHold, may_end}
-use Rattle.cable_text.specs.Stream.{StreamState, FaultsRose, FaultsOnlyRise, GivesFront, IsAtEnd}
+use Rattle.cable_definitions.specs.Stream.{StreamState, FaultsRose, FaultsOnlyRise, GivesFront, IsAtEnd}
 use Rattle.cable_text.specs.declared.fault.Line.{Line}
 use Rattle.cable_text.specs.declared.fault.Line.TheVariants.{Text, End}
 use Rattle.cable_text.specs.declared.fault.LineFault.{LineFault}
@@ -47,7 +47,7 @@ line_text phase text ws l cut h =
 -- a call that reads one line, and refuses it
 pub refused_line : {A : Type 0} {StandsSo : Site → Reader → Type 0} {old new : LinesState} {a b : StreamState} {refusal : Refusal} → FaultsOnlyRise a b → ((s : Site) (r : Reader) → StandsSo s r → RefusedAfter s r (ahead old a) old.lines refusal)
     → ReadsOneLine {A = A} (Err (Refused refusal)) StandsSo old new a b
-refused_line count h = record { kept = tt; number = tt; lines = tt; refused = h; read = tt; count = count }
+refused_line count h = record { no_fault = tt; number = tt; lines = tt; refused = h; read = tt; count = count }
 
 -- where no fault was kept
 pub none_kept : {P : Type 0} (kept : Option LineFault) → kept ≡ None → IfNone kept P → P

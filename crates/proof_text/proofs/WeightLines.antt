@@ -15,7 +15,7 @@ use Rattle.cable_definitions.specs.Items.{Field, IsWithin, within}
 use Rattle.cable_definitions.specs.Refusal.{DocLine, WorkLine, WeightLine, row_field, Phase, Reader, AtItem, AtWeights, after_weight}
 use Rattle.cable_text.proofs.Numerals.{numeral-decimal}
 use Rattle.cable_text.proofs.Reading.{spelling-number}
-use Rattle.cable_text.specs.Stream.{GivesFront}
+use Rattle.cable_definitions.specs.Stream.{GivesFront}
 use Rattle.cable_text.specs.Lines.{StandsNext}
 use Rattle.proof_text.specs.declared.fault.ItemFault.{ItemFault}
 use Rattle.proof_text.specs.declared.fault.ItemFault.TheVariants.{Refused, Read}

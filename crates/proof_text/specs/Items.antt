@@ -8,8 +8,8 @@ use Rattle.cable_definitions.specs.Site.{Site}
 use Rattle.cable_definitions.specs.Tree.{RowItem, WorkItem}
 use Rattle.cable_definitions.specs.Text.{line, item_lines, weight_line, act_line}
 use Rattle.cable_definitions.specs.Refusal.{DocLine, RowLine, WorkLine, WeightLine, ActLine, LayoutLine, RawAct, act_from, Reader, AtItem, AtWeights, AtCables}
-use Rattle.bound_value.specs.declared.work.Work.{Work}
-use Rattle.cable_text.specs.Stream.{GivesFront}
+use Rattle.node_works.specs.declared.work.Work.{Work}
+use Rattle.cable_definitions.specs.Stream.{GivesFront}
 use Rattle.proof_text.specs.declared.fault.ItemFault.{ItemFault}
 use Rattle.proof_text.specs.declared.items.Next.{Next}
 use Rattle.proof_text.specs.declared.items.Next.TheVariants.{Row, Work as WorkNext, Layout}
@@ -22,7 +22,7 @@ pub record ItemsState : Type 0 where
   pub kind : RowKind
   pub members : List ℕ
   pub work : Work
-  pub kept : Option ItemFault
+  pub fault : Option ItemFault
 
 -- the line of each weight
 abbrev pub weight_lines : List (ℕ × ℤ) → List DocLine

@@ -5,7 +5,7 @@ use Rattle.cable_definitions.specs.Site.{Site}
 use Rattle.cable_definitions.specs.Text.{Piece, Whole, IsNext}
 use Rattle.cable_definitions.specs.Refusal.{DocLine, Phase, AtWeights, Reader, ReadsLines, IsReadable, IsFoundByReading, IsLeastCause, may_end}
 use Rattle.cable_definitions.specs.declared.claim.Refusal.{Refusal}
-use Rattle.cable_text.specs.Stream.{StreamState, FaultsRose, FaultsOnlyRise}
+use Rattle.cable_definitions.specs.Stream.{StreamState, FaultsRose, FaultsOnlyRise}
 use Rattle.cable_text.specs.Lines.{LinesState, ahead, StandsNext}
 use Rattle.proof_text.specs.declared.fault.ItemFault.{ItemFault}
 use Rattle.proof_text.specs.declared.fault.ItemFault.TheVariants.{Refused, Read}
@@ -76,7 +76,7 @@ AwaitsAct s r = (v : ℕ) × (weights : List (ℕ × ℤ)) × (r.phase ≡ AtWei
 -- What a call does that reads one line of a document where the reader stands so: the line was read and is the last, or its refusal is the first, or the
 -- source failed.
 pub record ReadsOneLine {A : Type 0} (result : Result A ItemFault) (StandsSo : Site → Reader → Type 0) (old new : LinesState) (source_old source_new : StreamState) : Type 0 where
-  pub kept : OnOk result (new.kept ≡ None)
+  pub no_fault : OnOk result (new.fault ≡ None)
   pub number : OnOk result (new.number ≡ new.lines)
   pub lines : OnOk result (new.lines ≡ line_number_after old.lines 1)
   pub refused : IfRefused result (λ refusal. (s : Site) (r : Reader) → StandsSo s r → RefusedAfter s r (ahead old source_old) old.lines refusal)

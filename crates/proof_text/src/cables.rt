@@ -6,7 +6,7 @@ ghost use Rattle.cable_definitions.specs.declared.cable.Cable.{Cable as AnyCable
 ghost use Rattle.cable_definitions.specs.Text.{cable_line};
 ghost use Rattle.cable_definitions.specs.Site.{IsValid};
 ghost use Rattle.cable_definitions.specs.Refusal.{Reader, DocLine};
-ghost use Rattle.cable_text.specs.Stream.{FaultsRose, FaultsOnlyRise, GivesFront};
+ghost use Rattle.cable_definitions.specs.Stream.{FaultsRose, FaultsOnlyRise, GivesFront};
 ghost use Rattle.cable_text.specs.Lines.{ahead};
 ghost use Rattle.line_words.specs.Words.{held};
 ghost use Rattle.line_words.specs.Numbers.{Is};
@@ -15,7 +15,6 @@ ghost use Rattle.proof_text.specs.Cables.{HasNumbersOf, IsCableNamed, IsAhead, A
 ghost use Rattle.proof_text.specs.Reading.{line_number_after, ReadsTo, RefusedAfter, IfRefused, IfRead, ReadsOneLine};
 
 use crate::fault::ItemFault;
-use crate::named::point_named;
 use crate::reading::{next_line, refused};
 use cable_definitions::cable::Cable;
 use cable_definitions::claim::Cause;
@@ -50,10 +49,10 @@ fn cable_named(site: &Site, from: &[u8], to: &[u8], grade: Number) -> Option<Cab
     ensures none { IfNone result ((z : ℤ) → Is grade z → (c : AnyCable) → ¬ (IsCableNamed site.now from.now to.now z c)) }
     ensures valid { IsValid site.now }
 {
-    let Some(from) = point_named(site, from) else {
+    let Some(from) = site.number_of(from) else {
         return None;
     };
-    let Some(to) = point_named(site, to) else {
+    let Some(to) = site.number_of(to) else {
         return None;
     };
     let Some(grade) = grade_in(site, grade) else {
@@ -107,7 +106,7 @@ fn read_cable<S: Source>(
     cables: &[Cable],
     ordered: bool,
 ) -> Result<Cable, ItemFault>
-    requires { lines.old.kept ≡ None }
+    requires { lines.old.fault ≡ None }
     ensures line { ReadsOneLine result (AwaitsCable site.now ordered cables.now) lines.old lines.new (S.state src.old) (S.state src.new) }
     ensures reads { IfOk result (λ c. (l : DocLine) × ((r : Reader) (k : ℕ) → r.phase ≡ cables_left ordered (suc k) → r.cables ≡ cables.now
         → ReadsTo site.now r (ahead lines.old (S.state src.old)) (ahead lines.new (S.state src.new)) (l ∷ []) (record r { phase = cables_left ordered k; cables = cables.now ++ c ∷ [] }))) }
@@ -138,7 +137,7 @@ pub fn read_layout<S: Source>(
     ordered: bool,
     into: &mut Layout,
 ) -> Result<(), ItemFault>
-    requires kept { lines.old.kept ≡ None }
+    requires no_fault { lines.old.fault ≡ None }
     requires empty { into.old ≡ [] }
     requires most { count ≤ 256 }
     ensures reads { OnOk result (ReadsCables site.now ordered count 0 (ahead lines.old (S.state src.old)) (ahead lines.new (S.state src.new)) into.new) }
@@ -146,7 +145,7 @@ pub fn read_layout<S: Source>(
     ensures size { OnOk result (length into.new ≡ count) }
     ensures listed { OnOk result (All (HasNumbersOf site.now) into.new) }
     ensures in_order { OnOk result (IsTrue ordered → AllPairs (λ c d. c.from < d.from) into.new) }
-    ensures kept { OnOk result (lines.new.kept ≡ None) }
+    ensures no_fault { OnOk result (lines.new.fault ≡ None) }
     ensures lines { OnOk result (1 ≤ count → lines.new.lines ≡ line_number_after lines.old.lines count) }
     ensures no_lines { OnOk result (count ≡ 0 → lines.new.lines ≡ lines.old.lines) }
     ensures refused { IfRefused result (λ refusal. (r : Reader) → r.phase ≡ cables_left ordered count → r.cables ≡ []

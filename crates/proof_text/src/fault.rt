@@ -1,3 +1,5 @@
+//! Why the lines of a document aren't read further.
+
 use cable_definitions::claim::Refusal;
 use thiserror::Error;
 

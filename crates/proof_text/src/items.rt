@@ -6,17 +6,17 @@ ghost use Rattle.cable_definitions.specs.Site.{Site as SiteValue};
 ghost use Rattle.cable_definitions.specs.Command.{IsBudget};
 ghost use Rattle.cable_definitions.specs.Text.{line};
 ghost use Rattle.cable_definitions.specs.Refusal.{Reader, BudgetLine, AtBudget, AtItem, AtWeights, RawAct, ActLine, act_from};
-ghost use Rattle.cable_text.specs.Stream.{FaultsRose, FaultsOnlyRise, GivesFront};
+ghost use Rattle.cable_definitions.specs.Stream.{FaultsRose, FaultsOnlyRise, GivesFront};
 ghost use Rattle.cable_text.specs.Lines.{ahead};
 ghost use Rattle.proof_text.specs.Items.{ReadsItemLine, ReadsWeight, ReadsWeights, ReadsAct, ReadsRest, ReadsNext, kept_after};
 ghost use Rattle.proof_text.specs.Reading.{line_number_after, ReadsTo, ReadsDocLine, RefusedAfter, IfRefused, IfRead, IsAt, AwaitsWeight, AwaitsAct, ReadsOneLine};
 
 use crate::fault::ItemFault;
 use crate::reading::{next_line, refused};
-use bound_value::{Weights, Work};
 use cable_definitions::row::{Act, RowKind};
 use cable_text::{Lines, Source};
 use line_words::{ItemLine, MemberList, act_in, budget_in, item_in, weight_in, words_of};
+use node_works::{Weights, Work};
 use std::alloc::{AllocError, Global};
 use std::marker::Model;
 
@@ -30,7 +30,7 @@ pub enum Next {
 
 /// Reads the line `budget N`.
 fn read_budget<S: Source>(lines: &mut Lines, src: &mut S) -> Result<u32, ItemFault>
-    requires { lines.old.kept ≡ None }
+    requires { lines.old.fault ≡ None }
     ensures line { ReadsOneLine result (IsAt AtBudget) lines.old lines.new (S.state src.old) (S.state src.new) }
     ensures reads { IfOk result (λ n. (s : SiteValue) (r : Reader) → r.phase ≡ AtBudget
         → ReadsTo s r (ahead lines.old (S.state src.old)) (ahead lines.new (S.state src.new)) (BudgetLine (pos n) ∷ []) (record r { phase = AtItem; budget = n })) }
@@ -51,7 +51,7 @@ fn read_item<S: Source>(
     src: &mut S,
     members: &mut MemberList,
 ) -> Result<ItemLine, ItemFault>
-    requires { lines.old.kept ≡ None }
+    requires { lines.old.fault ≡ None }
     ensures line { ReadsOneLine result (IsAt AtItem) lines.old lines.new (S.state src.old) (S.state src.new) }
     ensures reads { IfOk result (λ item. ReadsItemLine (ahead lines.old (S.state src.old)) (ahead lines.new (S.state src.new)) item members.new) }
 {
@@ -64,7 +64,7 @@ fn read_item<S: Source>(
 
 /// Reads the line of a weight, where one is to come.
 fn read_weight<S: Source>(lines: &mut Lines, src: &mut S) -> Result<(u32, i128), ItemFault>
-    requires { lines.old.kept ≡ None }
+    requires { lines.old.fault ≡ None }
     ensures line { ReadsOneLine result AwaitsWeight lines.old lines.new (S.state src.old) (S.state src.new) }
     ensures reads { IfOk result (λ weight. ReadsWeight (ahead lines.old (S.state src.old)) (ahead lines.new (S.state src.new)) weight) }
 {
@@ -82,11 +82,11 @@ fn read_weights<S: Source>(
     weights: &mut Weights,
     count: u32,
 ) -> Result<(), ItemFault>
-    requires kept { lines.old.kept ≡ None }
+    requires no_fault { lines.old.fault ≡ None }
     requires room { count ≤ 1024 }
     ensures reads { OnOk result (ReadsWeights (ahead lines.old (S.state src.old)) (ahead lines.new (S.state src.new)) weights.new) }
     ensures length { OnOk result (length weights.new ≡ count) }
-    ensures kept { OnOk result (lines.new.kept ≡ None) }
+    ensures no_fault { OnOk result (lines.new.fault ≡ None) }
     ensures lines { OnOk result (line_number_after lines.new.lines 1 ≡ line_number_after lines.old.lines (count + 1)) }
     ensures refused { IfRefused result (λ refusal. (s : SiteValue) (r : Reader) (v : ℕ) → r.phase ≡ AtWeights v count []
         → RefusedAfter s r (ahead lines.old (S.state src.old)) lines.old.lines refusal) }
@@ -116,7 +116,7 @@ fn add_weight(weights: &mut Weights, row: u32, weight: i128)
 
 /// Reads the line of an act.
 fn read_act<S: Source>(lines: &mut Lines, src: &mut S) -> Result<Act, ItemFault>
-    requires { lines.old.kept ≡ None }
+    requires { lines.old.fault ≡ None }
     ensures line { ReadsOneLine result AwaitsAct lines.old lines.new (S.state src.old) (S.state src.new) }
     ensures reads { IfOk result (λ act. ReadsAct (ahead lines.old (S.state src.old)) (ahead lines.new (S.state src.new)) act) }
 {
@@ -134,11 +134,11 @@ fn read_work<S: Source>(
     weights: &mut Weights,
     count: u32,
 ) -> Result<Act, ItemFault>
-    requires kept { lines.old.kept ≡ None }
+    requires no_fault { lines.old.fault ≡ None }
     requires room { count ≤ 1024 }
     ensures reads { IfOk result (λ act. ReadsRest (ahead lines.old (S.state src.old)) (ahead lines.new (S.state src.new)) weights.new act) }
     ensures length { OnOk result (length weights.new ≡ count) }
-    ensures kept { OnOk result (lines.new.kept ≡ None) }
+    ensures no_fault { OnOk result (lines.new.fault ≡ None) }
     ensures number { OnOk result (lines.new.number ≡ lines.new.lines) }
     ensures lines { OnOk result (lines.new.lines ≡ line_number_after lines.old.lines (count + 1)) }
     ensures refused { IfRefused result (λ refusal. (s : SiteValue) (r : Reader) (v : ℕ) → r.phase ≡ AtWeights v count []
@@ -165,7 +165,7 @@ impl Model for ItemReader {
 
     ghost Value = { ItemsState };
 
-    ghost view = { λ s. record { kind = s.kind; members = s.members; work = s.work; kept = s.fault } };
+    ghost view = { λ s. record { kind = s.kind; members = s.members; work = s.work; fault = s.fault } };
 }
 
 impl ItemReader {
@@ -175,7 +175,7 @@ impl ItemReader {
     ///
     /// `AllocError` where there is no memory for 1,024 weights.
     pub fn new(alloc: Global) -> Result<ItemReader, AllocError>
-        ensures { IfOk result (λ reader. reader.kept ≡ None) }
+        ensures { IfOk result (λ reader. reader.fault ≡ None) }
     {
         let weights = Weights::new(alloc)?;
         Ok(ItemReader {
@@ -220,10 +220,10 @@ impl ItemReader {
     /// where it is too long, unended or missing, `Form` where it is another line, `Limit` where N is
     /// out of range; `Read` where the source failed. The fault is kept.
     pub fn budget<S: Source>(&mut self, lines: &mut Lines, src: &mut S) -> Result<u32, ItemFault>
-        requires { self.old.kept ≡ None → lines.old.kept ≡ None }
-        ensures fault { IfSome self.old.kept (λ fault. (result ≡ Err fault) × (self.new ≡ self.old) × (lines.new ≡ lines.old) × (src.new ≡ src.old)) }
-        ensures keeps { IfNone self.old.kept (self.new ≡ record self.old { kept = kept_after result }) }
-        ensures line { IfNone self.old.kept (ReadsOneLine result (IsAt AtBudget) lines.old lines.new (S.state src.old) (S.state src.new)) }
+        requires { self.old.fault ≡ None → lines.old.fault ≡ None }
+        ensures fault { IfSome self.old.fault (λ fault. (result ≡ Err fault) × (self.new ≡ self.old) × (lines.new ≡ lines.old) × (src.new ≡ src.old)) }
+        ensures keeps { IfNone self.old.fault (self.new ≡ record self.old { fault = kept_after result }) }
+        ensures line { IfNone self.old.fault (ReadsOneLine result (IsAt AtBudget) lines.old lines.new (S.state src.old) (S.state src.new)) }
         ensures reads { IfOk result (λ n. (s : SiteValue) (r : Reader) → r.phase ≡ AtBudget
             → ReadsTo s r (ahead lines.old (S.state src.old)) (ahead lines.new (S.state src.new)) (BudgetLine (pos n) ∷ []) (record r { phase = AtItem; budget = n })) }
         ensures text { IfOk result (λ n. GivesFront (ahead lines.old (S.state src.old)) (ahead lines.new (S.state src.new)) (line (codes "budget" ∷ decimal n ∷ []))) }
@@ -250,15 +250,15 @@ impl ItemReader {
     /// is none that may stand there, `Limit` where a number is out of range or a row has more than 256
     /// members; `Read` where the source failed. The fault is kept.
     pub fn next<S: Source>(&mut self, lines: &mut Lines, src: &mut S) -> Result<Next, ItemFault>
-        requires { self.old.kept ≡ None → lines.old.kept ≡ None }
-        ensures fault { IfSome self.old.kept (λ fault. (result ≡ Err fault) × (self.new ≡ self.old) × (lines.new ≡ lines.old) × (src.new ≡ src.old)) }
-        ensures keeps { IfNone self.old.kept (self.new.kept ≡ kept_after result) }
-        ensures reads { IfNone self.old.kept (ReadsNext (ahead lines.old (S.state src.old)) (ahead lines.new (S.state src.new)) lines.old.lines lines.new.lines self.new result) }
-        ensures kept { OnOk result (lines.new.kept ≡ None) }
+        requires { self.old.fault ≡ None → lines.old.fault ≡ None }
+        ensures fault { IfSome self.old.fault (λ fault. (result ≡ Err fault) × (self.new ≡ self.old) × (lines.new ≡ lines.old) × (src.new ≡ src.old)) }
+        ensures keeps { IfNone self.old.fault (self.new.fault ≡ kept_after result) }
+        ensures reads { IfNone self.old.fault (ReadsNext (ahead lines.old (S.state src.old)) (ahead lines.new (S.state src.new)) lines.old.lines lines.new.lines self.new result) }
+        ensures no_fault { OnOk result (lines.new.fault ≡ None) }
         ensures number { OnOk result (lines.new.number ≡ lines.new.lines) }
-        ensures refused { IfNone self.old.kept (IfRefused result (λ refusal. (s : SiteValue) (r : Reader) → r.phase ≡ AtItem
+        ensures refused { IfNone self.old.fault (IfRefused result (λ refusal. (s : SiteValue) (r : Reader) → r.phase ≡ AtItem
             → RefusedAfter s r (ahead lines.old (S.state src.old)) lines.old.lines refusal)) }
-        ensures read { IfNone self.old.kept (IfRead result (FaultsRose (S.state src.old) (S.state src.new))) }
+        ensures read { IfNone self.old.fault (IfRead result (FaultsRose (S.state src.old) (S.state src.new))) }
         ensures count { FaultsOnlyRise (S.state src.old) (S.state src.new) }
     {
         if let Some(fault) = self.fault {
@@ -275,10 +275,10 @@ impl ItemReader {
 
     /// Reads the next item, which the reader holds then, or the line `layout K`, and keeps no fault.
     fn read_next<S: Source>(&mut self, lines: &mut Lines, src: &mut S) -> Result<Next, ItemFault>
-        requires { lines.old.kept ≡ None }
-        ensures same { self.new.kept ≡ self.old.kept }
+        requires { lines.old.fault ≡ None }
+        ensures same { self.new.fault ≡ self.old.fault }
         ensures reads { ReadsNext (ahead lines.old (S.state src.old)) (ahead lines.new (S.state src.new)) lines.old.lines lines.new.lines self.new result }
-        ensures kept { OnOk result (lines.new.kept ≡ None) }
+        ensures no_fault { OnOk result (lines.new.fault ≡ None) }
         ensures number { OnOk result (lines.new.number ≡ lines.new.lines) }
         ensures refused { IfRefused result (λ refusal. (s : SiteValue) (r : Reader) → r.phase ≡ AtItem
             → RefusedAfter s r (ahead lines.old (S.state src.old)) lines.old.lines refusal) }

@@ -1,39 +1,22 @@
 //! Points by their names.
 
-ghost use Rattle.std.specs.Prelude.{◌≡◌, ◌≢◌, ◌<◌, ◌↔◌, ℕ, length, Any, IfSome, IfNone, IsTrue};
+ghost use Rattle.std.specs.Prelude.{◌≡◌, ◌≢◌, ℕ, IfSome, IfNone, IsTrue};
 ghost use Rattle.cable_definitions.specs.declared.claim.Claim.{Claim as AnyClaim};
 ghost use Rattle.cable_definitions.specs.Arcs.{kind_of, is_turbine};
 ghost use Rattle.cable_definitions.specs.Text.{name_of};
-ghost use Rattle.cable_definitions.specs.Site.{IsValid};
 ghost use Rattle.cable_definitions.specs.Refusal.{IsClaimOf};
 ghost use Rattle.line_words.specs.Judged.{verdict_of};
 
 use cable_definitions::claim::Claim;
-use cable_text::is_word;
 use line_words::NamedClaim;
 use site_model::Site;
-
-/// The number of the point with this name.
-pub fn point_named(site: &Site, name: &[u8]) -> Option<u32>
-    ensures some { IfSome result (λ p. (p < length site.now.points) × (name_of site.now p ≡ name.now)) }
-    ensures none { IfNone result (¬ (Any (λ p. p.name ≡ name.now) site.now.points)) }
-    ensures valid { IsValid site.now }
-{
-    let points = site.points();
-    for (number, point) in points.iter().enumerate() {
-        if is_word(point.name.as_slice(), name) {
-            return Some(number as u32);
-        }
-    }
-    None
-}
 
 /// The number of the turbine with this name.
 fn turbine_named(site: &Site, name: &[u8]) -> Option<u32>
     ensures some { IfSome result (λ p. IsTrue (is_turbine (kind_of site.now p)) × (name_of site.now p ≡ name.now)) }
     ensures none { IfNone result ((p : ℕ) → IsTrue (is_turbine (kind_of site.now p)) → name_of site.now p ≢ name.now) }
 {
-    let Some(number) = point_named(site, name) else {
+    let Some(number) = site.number_of(name) else {
         return None;
     };
     if site.kind(number).is_turbine() {

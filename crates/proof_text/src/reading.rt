@@ -6,7 +6,7 @@ ghost use Rattle.cable_definitions.specs.Site.{Site as SiteValue};
 ghost use Rattle.cable_definitions.specs.Document.{IsClaimInRange};
 ghost use Rattle.cable_definitions.specs.Text.{line, claim_line, HasNoNewline, Whole};
 ghost use Rattle.cable_definitions.specs.Refusal.{RawClaim, Reader, LayoutLine, ClaimLine, EndLine, AtJudged, AtAnyCables, AtCables, AtLast, Past, may_end, is_allowed, IsClaimOf, DocLine};
-ghost use Rattle.cable_text.specs.Stream.{FaultsRose, FaultsOnlyRise, GivesFront, IsAtEnd};
+ghost use Rattle.cable_definitions.specs.Stream.{FaultsRose, FaultsOnlyRise, GivesFront, IsAtEnd};
 ghost use Rattle.cable_text.specs.Lines.{ahead, StandsNext};
 ghost use Rattle.proof_text.specs.Reading.{line_number_after, ReadsTo, ReadsDocLine, RefusedAfter, IfRefused, IfRead, IsBeforeLine, IsAt, IsAtOf, ReadsOneLine};
 
@@ -27,10 +27,14 @@ pub fn refused(lines: &Lines, cause: Cause) -> ItemFault
     })
 }
 
-/// Reads the next line, so that it is the text of `lines`; a line that is too long, unended or
-/// missing is refused with the cause `Line`.
+/// Reads the next line, so that it is the text of `lines`.
+///
+/// # Errors
+///
+/// `Refused` with the line's number and the cause `Line` where it is too long, unended or missing;
+/// `Read` where the source failed.
 pub fn next_line<S: Source>(lines: &mut Lines, src: &mut S) -> Result<(), ItemFault>
-    requires { lines.old.kept ≡ None }
+    requires { lines.old.fault ≡ None }
     ensures line { ReadsOneLine result IsBeforeLine lines.old lines.new (S.state src.old) (S.state src.new) }
     ensures found { OnOk result (StandsNext (ahead lines.old (S.state src.old)) (Whole lines.new.text) (ahead lines.new (S.state src.new))) }
     ensures plain { OnOk result (HasNoNewline lines.new.text) }
@@ -52,7 +56,7 @@ pub fn next_line<S: Source>(lines: &mut Lines, src: &mut S) -> Result<(), ItemFa
 /// `Refused` with the line's number: `Line` where it is too long, unended or missing, `Form` where it
 /// is another line, `Limit` where K is out of range. `Read` where the source failed.
 pub fn read_count<S: Source>(lines: &mut Lines, src: &mut S) -> Result<u32, ItemFault>
-    requires { lines.old.kept ≡ None }
+    requires { lines.old.fault ≡ None }
     ensures line { ReadsOneLine result (IsAt AtJudged) lines.old lines.new (S.state src.old) (S.state src.new) }
     ensures reads { IfOk result (λ k. (s : SiteValue) (r : Reader) → r.phase ≡ AtJudged
         → ReadsTo s r (ahead lines.old (S.state src.old)) (ahead lines.new (S.state src.new)) (LayoutLine (pos k) ∷ []) (record r { phase = AtAnyCables k })) }
@@ -78,7 +82,7 @@ pub fn read_claim<S: Source>(
     src: &mut S,
     site: &Site,
 ) -> Result<Claim, ItemFault>
-    requires { lines.old.kept ≡ None }
+    requires { lines.old.fault ≡ None }
     ensures line { ReadsOneLine result (IsAtOf site.now (AtCables 0)) lines.old lines.new (S.state src.old) (S.state src.new) }
     ensures reads { IfOk result (λ claim. (raw : RawClaim) × IsClaimOf site.now raw claim
         × ((r : Reader) → r.phase ≡ AtCables 0 → ReadsDocLine site.now r (ahead lines.old (S.state src.old)) (ahead lines.new (S.state src.new)) (ClaimLine raw))) }
@@ -98,7 +102,7 @@ pub fn read_claim<S: Source>(
 
 /// Reads the line `end document`.
 fn read_last<S: Source>(lines: &mut Lines, src: &mut S) -> Result<(), ItemFault>
-    requires { lines.old.kept ≡ None }
+    requires { lines.old.fault ≡ None }
     ensures line { ReadsOneLine result (IsAt AtLast) lines.old lines.new (S.state src.old) (S.state src.new) }
     ensures reads { OnOk result ((s : SiteValue) (r : Reader) → r.phase ≡ AtLast
         → ReadsTo s r (ahead lines.old (S.state src.old)) (ahead lines.new (S.state src.new)) (EndLine ∷ []) (record r { phase = Past })) }
@@ -111,17 +115,17 @@ fn read_last<S: Source>(lines: &mut Lines, src: &mut S) -> Result<(), ItemFault>
     }
 }
 
-/// StandsNext the end of the input, where it may end.
+/// Looks for the end of the input, where it may end.
 ///
 /// # Errors
 ///
 /// `Refused` with the number of the line that follows: `Line` where it is too long or unended, `Form`
 /// where it is whole. `Read` where the source failed.
 pub fn read_end<S: Source>(lines: &mut Lines, src: &mut S) -> Result<(), ItemFault>
-    requires { lines.old.kept ≡ None }
+    requires { lines.old.fault ≡ None }
     ensures end { OnOk result (IsAtEnd (ahead lines.old (S.state src.old))) }
     ensures same { OnOk result (ahead lines.new (S.state src.new) ≡ ahead lines.old (S.state src.old)) }
-    ensures kept { OnOk result (lines.new.kept ≡ None) }
+    ensures no_fault { OnOk result (lines.new.fault ≡ None) }
     ensures lines { OnOk result (lines.new.lines ≡ lines.old.lines) }
     ensures refused { IfRefused result (λ refusal. (s : SiteValue) (r : Reader) → IsTrue (may_end r.phase)
         → RefusedAfter s r (ahead lines.old (S.state src.old)) lines.old.lines refusal) }
@@ -145,12 +149,12 @@ pub fn read_end<S: Source>(lines: &mut Lines, src: &mut S) -> Result<(), ItemFau
 /// unended, or the line `end document` is missing; `Form` where it is another line, or a whole one
 /// behind the last. `Read` where the source failed.
 pub fn read_close<S: Source>(lines: &mut Lines, src: &mut S) -> Result<(), ItemFault>
-    requires { lines.old.kept ≡ None }
+    requires { lines.old.fault ≡ None }
     ensures reads { OnOk result ((s : SiteValue) (r : Reader) → r.phase ≡ AtLast
         → ReadsTo s r (ahead lines.old (S.state src.old)) (ahead lines.new (S.state src.new)) (EndLine ∷ []) (record r { phase = Past })) }
     ensures text { OnOk result (GivesFront (ahead lines.old (S.state src.old)) (ahead lines.new (S.state src.new)) (line (codes "end" ∷ codes "document" ∷ []))) }
     ensures end { OnOk result (IsAtEnd (ahead lines.new (S.state src.new))) }
-    ensures kept { OnOk result (lines.new.kept ≡ None) }
+    ensures no_fault { OnOk result (lines.new.fault ≡ None) }
     ensures lines { OnOk result (lines.new.lines ≡ line_number_after lines.old.lines 1) }
     ensures refused { IfRefused result (λ refusal. (s : SiteValue) (r : Reader) → r.phase ≡ AtLast
         → RefusedAfter s r (ahead lines.old (S.state src.old)) lines.old.lines refusal) }

@@ -7,11 +7,11 @@ use Rattle.cable_definitions.specs.Site.{Site}
 use Rattle.cable_definitions.specs.Row.{Row}
 use Rattle.cable_definitions.specs.Choice.{AtMost, IsExtreme, weighted_on_use, weighted_on_load}
 use Rattle.cable_definitions.specs.Core.{IsSlack}
-use Rattle.bound_value.specs.declared.counts.Counts.{Counts}
-use Rattle.bound_value.specs.Least.{left_over}
-use Rattle.bound_value.specs.Sums.{AreSummed, AreCounts}
-use Rattle.bound_value.proofs.Weighing.{back}
-use Rattle.bound_value.proofs.Counting.{least_left}
+use Rattle.cable_rows.specs.declared.counts.Counts.{Counts}
+use Rattle.arc_choices.specs.Least.{left_over}
+use Rattle.cable_rows.specs.Sums.{AreSummed, AreCounts}
+use Rattle.cable_rows.proofs.Weighing.{back}
+use Rattle.cable_rows.proofs.Counting.{counts_read}
 use Rattle.row_lifts.specs.declared.sums.Weighed.{Weighed}
 use Rattle.row_lifts.specs.Sums.{AreSums}
 
@@ -28,4 +28,4 @@ summed rows weighed sets a arc h e = record {
 -- the least that a use leaves is the slack, where the program read these counts
 pub slack_left : (s : Site) (rows : List Row) (ws : List (ℕ × ℤ)) (a : ℕ) (arc : Arc) (counts : Counts) (least : ℤ) → AreCounts rows ws a arc counts → unsigned_abs least ≤ 10 ^ 30
     → IsExtreme AtMost s arc Used (left_over s arc (to_z w128 (of_z w128 counts.on_use)) (to_z w128 (of_z w128 counts.on_load))) least → IsSlack s rows ws a arc (to_z w128 (of_z w128 least))
-slack_left s rows ws a arc counts least h small e = subst (λ (z : ℤ). IsSlack s rows ws a arc z) (sym (back least (omega (arith, small)))) (least_left s rows ws a arc Used counts least h e)
+slack_left s rows ws a arc counts least h small e = subst (λ (z : ℤ). IsSlack s rows ws a arc z) (sym (back least (omega (arith, small)))) (counts_read (λ u v. IsExtreme AtMost s arc Used (left_over s arc u v) least) rows ws a arc counts h e)

@@ -20,7 +20,8 @@ use Rattle.row_makers.specs.declared.capacity.Tried.TheVariants.{Turbine, Pair, 
 use Rattle.row_makers.specs.declared.capacity.Most.{Most}
 use Rattle.row_makers.specs.Tried.{missing, IsTried}
 use Rattle.row_makers.specs.Most.{tried_members, MayTry, IsMost, IsMostBelow, IsMostOfAll}
-use Rattle.row_makers.specs.Found.{row_made, IsViolatedCut}
+use Rattle.cable_rows.specs.Made.{row_made}
+use Rattle.row_makers.specs.Found.{IsViolatedCut}
 use Rattle.row_makers.proofs.Whole.{ArePointsBelow, are_points_below}
 
 -- ---- one point more

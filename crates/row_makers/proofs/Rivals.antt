@@ -22,7 +22,8 @@ use Rattle.cable_definitions.specs.Row.{Question, SomeMember, RightCount, InRang
 use Rattle.cable_rows.specs.declared.row.Row.{Row as MadeRow}
 use Rattle.bound_shares.specs.Shares.{member_shares}
 use Rattle.row_makers.specs.Rivals.{AreRivals, AreSharedBelow, AreShared, HasNoRival}
-use Rattle.row_makers.specs.Found.{row_made, IsViolatedOne}
+use Rattle.cable_rows.specs.Made.{row_made}
+use Rattle.row_makers.specs.Found.{IsViolatedOne}
 
 -- one value of a place
 same_value : {X : Type 0} → (xs : List X) (i : ℕ) (x y : X) → slice_get xs i ≡ Some x → slice_get xs i ≡ Some y → x ≡ y

@@ -7,11 +7,6 @@ use Rattle.cable_definitions.specs.Site.{Site}
 use Rattle.cable_definitions.specs.Layout.{IsLegal}
 use Rattle.cable_definitions.specs.Row.{Row, IsWellFormed, Holds}
 use Rattle.bound_shares.specs.Shares.{ViolateCut, ViolateOne}
-use Rattle.cable_rows.specs.declared.row.Row.{Row as MadeRow}
-
--- a row as it was made
-abbrev pub row_made : MadeRow → Row
-row_made row = record { kind = row.kind; members = row.members }
 
 -- a `Cut` that is well formed, holds of every legal layout, and is violated by the shares
 pub record IsViolatedCut (s : Site) (arcs : List Arc) (shares : List ℕ) (row : Row) : Type 0 where

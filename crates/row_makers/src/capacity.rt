@@ -4,7 +4,8 @@ ghost use Rattle.std.specs.Prelude.{◌≡◌, ◌≢◌, ◌<◌, ◌≤◌, �
 ghost use Rattle.cable_definitions.specs.Arcs.{AreArcs, kind_of, is_turbine as is_turbine_of, power_of, largest_capacity};
 ghost use Rattle.cable_definitions.specs.Row.{rounded_up};
 ghost use Rattle.bound_shares.specs.Shares.{ViolateCut};
-ghost use Rattle.row_makers.specs.Found.{row_made, IsViolatedCut};
+ghost use Rattle.cable_rows.specs.Made.{row_made};
+ghost use Rattle.row_makers.specs.Found.{IsViolatedCut};
 ghost use Rattle.row_makers.specs.Tried.{turbines_and_bends as turbines_and_bends_of, missing, IsTried};
 ghost use Rattle.row_makers.specs.Most.{tried_members, MayTry, IsMost, IsMostBelow, IsMostOfAll};
 
@@ -28,13 +29,6 @@ enum Tried {
 struct Most {
     set: Tried,
     missing: u64,
-}
-
-/// Whether a turbine stands at a point.
-fn is_turbine(site: &Site, p: u32) -> bool
-    ensures { result ≡ is_turbine_of (kind_of site.now p) }
-{
-    matches!(site.kind(p), Kind::Turbine { .. })
 }
 
 /// The turbines and bends of a site, ascending.
@@ -118,7 +112,7 @@ fn with_pairs(site: &Site, sums: &Sums, first: Most, q: u32) -> Most
 {
     let mut most = first;
     for p in 0..q {
-        if is_turbine(site, p) {
+        if site.kind(p).is_turbine() {
             most = with_set(site, sums, most, Tried::Pair(p, q));
         }
     }
@@ -131,7 +125,7 @@ fn with_point(site: &Site, sums: &Sums, most: Most, q: u32) -> Most
     requires most { IsMostBelow site.now sums.now.arcs sums.now.shares q most }
     ensures { IsMostBelow site.now sums.now.arcs sums.now.shares (q + 1) result }
 {
-    if !is_turbine(site, q) {
+    if !site.kind(q).is_turbine() {
         return most;
     }
     let alone = with_set(site, sums, most, Tried::Turbine(q));

@@ -4,7 +4,8 @@ ghost use Rattle.std.specs.Prelude.{◌≡◌, ◌<◌, ◌≤◌, ◌+◌, ◌�
 ghost use Rattle.cable_definitions.specs.Arcs.{AreArcs};
 ghost use Rattle.cable_definitions.specs.Row.{IsWellFormed};
 ghost use Rattle.bound_shares.specs.Shares.{member_shares};
-ghost use Rattle.row_makers.specs.Found.{row_made, IsViolatedOne};
+ghost use Rattle.cable_rows.specs.Made.{row_made};
+ghost use Rattle.row_makers.specs.Found.{IsViolatedOne};
 ghost use Rattle.row_makers.specs.Rivals.{AreRivals, AreShared, HasNoRival};
 
 use crate::larger::with_more;

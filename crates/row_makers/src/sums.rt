@@ -2,14 +2,14 @@
 
 ghost use Rattle.std.specs.Prelude.{◌≡◌, ◌≢◌, ◌<◌, ◌≤◌, ◌+◌, ◌*◌, ℕ, [], ◌∷◌, length, slice_get, slice_index_or, Some, IfOk};
 ghost use Rattle.cable_definitions.specs.declared.cable.Arc.{Arc};
-ghost use Rattle.cable_definitions.specs.Arcs.{AreArcs, kind_of, is_substation as is_substation_of};
+ghost use Rattle.cable_definitions.specs.Arcs.{AreArcs};
 ghost use Rattle.bound_shares.specs.Shares.{shares_where, leaving_shares};
 ghost use Rattle.row_makers.specs.Sums.{starts_in, goes, ends_in_substation, JoinsPoints};
 ghost use Rattle.row_makers.specs.Tried.{turbines_and_bends};
 
 use bound_shares::Shares;
 use candidate_cables::Arcs;
-use site_model::{Kind, Site};
+use site_model::Site;
 use std::alloc::{AllocError, Global};
 use std::marker::Model;
 
@@ -53,13 +53,6 @@ fn sums_between(alloc: Global, arcs: &Arcs, shares: &Shares) -> Result<Vec<u64>,
     Ok(sums)
 }
 
-/// Whether a substation stands at a point.
-fn is_substation(site: &Site, p: u32) -> bool
-    ensures { result ≡ is_substation_of (kind_of site.now p) }
-{
-    matches!(site.kind(p), Kind::Substation { .. })
-}
-
 /// The sum of the shares of the arcs into substations.
 fn sum_into_substations(site: &Site, arcs: &Arcs, shares: &Shares) -> u64
     requires { length shares.now ≡ length arcs.now }
@@ -67,7 +60,7 @@ fn sum_into_substations(site: &Site, arcs: &Arcs, shares: &Shares) -> u64
 {
     let mut total = 0;
     for a in 0..arcs.len() {
-        if is_substation(site, arcs.get(a).to) {
+        if site.kind(arcs.get(a).to).is_substation() {
             total += u64::from(shares.get(a));
         }
     }

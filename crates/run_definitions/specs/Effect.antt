@@ -1,7 +1,7 @@
 -- What a call does to the streams that it is given.
 use Rattle.std.specs.Prelude.{◌≡◌, ℕ, ◌⊎◌, List, Some}
 use Rattle.cable_definitions.specs.Answers.{write_fault_note}
-use Rattle.cable_text.specs.Stream.{StreamState, FaultsRose, Appends, AppendsPrefix}
+use Rattle.cable_definitions.specs.Stream.{StreamState, FaultsRose, Appends, AppendsPrefix}
 use Rattle.run_definitions.specs.declared.ending.Ending.{Ending}
 use Rattle.run_definitions.specs.declared.ending.Ending.TheVariants.{Memory}
 

@@ -18,7 +18,7 @@ use Rattle.cable_definitions.specs.Refusal.{IsRefused, IsSiteWithCables, IsJudge
 use Rattle.cable_definitions.specs.Report.{report_text}
 use Rattle.cable_definitions.specs.Drill.{IsDrillSite, drill_line}
 use Rattle.cable_definitions.specs.Answers.{usage_note, site_note, document_note, read_fault_note, write_fault_note, memory_note, yes_line, legal_line, broken_line}
-use Rattle.cable_text.specs.Stream.{IsAtEnd}
+use Rattle.cable_definitions.specs.Stream.{IsAtEnd}
 use Rattle.run_definitions.specs.declared.ending.Ending.{Ending}
 use Rattle.run_definitions.specs.declared.ending.Ending.TheVariants.{Done, Usage, SiteRefused, Gap as EndsInGap, Partial as EndsOpen, Infeasible as EndsInfeasible, DocumentRefused, ReadFault, WriteFault, Memory}
 use Rattle.run_definitions.specs.Bytes.{IsSiteOf, IsPlanFault, IsFrontSite, IsFrontFault}

@@ -24,13 +24,13 @@ abbrev pub round : ℕ → List Event
 round lanes = map Take (numbers_below lanes) ++ map Work (numbers_below lanes)
 
 -- no node is wanted and none is held, or the budget of works is spent while a node is wanted
-abbrev pub IsAtEnd : Site → ℕ → Core → Type 0
-IsAtEnd s n core = IsClosed s core ⊎ IsSpent s n core
+abbrev pub IsOver : Site → ℕ → Core → Type 0
+IsOver s n core = IsClosed s core ⊎ IsSpent s n core
 
 -- so many rounds, each of which begins before the end, lead to the end
 abbrev pub LeadToEnd : Site → List Arc → ℕ → ℕ → ℕ → Core → Core → Type 0
-LeadToEnd s arcs n lanes zero old new = IsAtEnd s n old × (new ≡ old)
-LeadToEnd s arcs n lanes (suc rounds) old new = (¬ (IsAtEnd s n old)) × ((mid : Core) × Runs s arcs n old (round lanes) mid × LeadToEnd s arcs n lanes rounds mid new)
+LeadToEnd s arcs n lanes zero old new = IsOver s n old × (new ≡ old)
+LeadToEnd s arcs n lanes (suc rounds) old new = (¬ (IsOver s n old)) × ((mid : Core) × Runs s arcs n old (round lanes) mid × LeadToEnd s arcs n lanes rounds mid new)
 
 -- What leads to the state with which a plan ends: a layout to begin with, where there is one; rounds to the end; and where the budget is spent and a
 -- layout is known, a settled layout that may be cheaper.

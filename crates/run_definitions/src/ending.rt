@@ -1,3 +1,5 @@
+//! How a run ends, and the status of each end.
+
 ghost use Rattle.std.specs.Prelude.{◌≡◌};
 
 /// How a run of the program ends.

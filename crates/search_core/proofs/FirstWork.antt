@@ -12,9 +12,9 @@ use Rattle.cable_definitions.specs.Core.{Core, Takes, Finds}
 use Rattle.branch_tree.specs.State.{status_after}
 use Rattle.proof_laws.proofs.Boxes.{set_other, append_left}
 use Rattle.proof_laws.proofs.Sound.{children, set_at_node}
-use Rattle.search_core.specs.Lists.{AreFew}
-use Rattle.search_core.specs.Progress.{kept_of, core_of, HasFirstRoom, IsSearching}
-use Rattle.search_core.specs.declared.progress.Progress.{Progress}
+use Rattle.search_progress.specs.Lists.{AreFew}
+use Rattle.search_progress.specs.Progress.{kept_of, core_of, HasFirstRoom, IsSearching}
+use Rattle.search_progress.specs.declared.progress.Progress.{Progress}
 use Rattle.search_core.proofs.Stepping.{made-worked}
 
 -- no node is worked and node 1 alone is made, or node 1 is worked

@@ -1,9 +1,3 @@
-pub mod RowsListed
-pub mod OpenFirst
-pub mod HeldLanes
-pub mod OpenList
-pub mod Acting
-pub mod OpenStart
 -- rows that are listed while a node is worked
 pub mod Listing
 -- weights and their values where further rows are listed
@@ -20,3 +14,15 @@ pub mod Seeing
 pub mod RaisedCalls
 -- what is chosen on a node by raised weights
 pub mod RaisedChoice
+-- node 1 stays as the work on it left it
+pub mod Flooring
+-- rows and works that are written
+pub mod Writing
+-- parts of a search, one after another, and what they write
+pub mod Advancing
+-- steps of a search as steps of its core
+pub mod CoreSteps
+-- rounds that lead to the end
+pub mod Looping
+-- a search from its beginning to its plan
+pub mod Assembling

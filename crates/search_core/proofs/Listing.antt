@@ -1,23 +1,19 @@
 -- Rows that are listed while a node is worked.
 use Rattle.std.proofs.Common.{◌≡◌, ℕ, ◌+◌, ◌<◌, ◌≤◌, List, [], ◌∷◌, ◌++◌, length, slice_get, Some, All, refl, sym, ◌∙◌, ap, subst, arith, append_assoc, length-append}
 use Rattle.std.specs.Prelude.{sum_by}
-use Rattle.std.proofs.lemmas.List.{append-nil, map-append}
+use Rattle.std.proofs.lemmas.List.{append-nil}
 use Rattle.std.proofs.lemmas.List.Sums.{sum_by-append, sum_by-cons, sum_by_push}
 use Rattle.std.proofs.lemmas.List.Elements.{All-nil, All-cons, All-head, All-tail, All-append}
 use Rattle.cable_definitions.specs.declared.cable.Arc.{Arc}
 use Rattle.cable_definitions.specs.Site.{Site}
 use Rattle.cable_definitions.specs.Row.{Row, IsWellFormed}
-use Rattle.cable_definitions.specs.Tree.{RowItem, Item, ProofState, empty_state, Leads, IsListed}
+use Rattle.cable_definitions.specs.Tree.{ProofState, empty_state, Leads, IsListed}
 use Rattle.cable_definitions.specs.Core.{are_row_items}
 use Rattle.proof_laws.specs.Decided.{HasPointRows}
 use Rattle.proof_laws.proofs.Boxes.{append_left}
 use Rattle.floor_rows.specs.Listed.{HasRoom, ListsSets}
-use Rattle.search_core.specs.Lists.{Lists, AreFew}
-
--- items and then others
-pub leads-and : (s : Site) (arcs : List Arc) (n : ℕ) (old mid new : ProofState) (xs ys : List Item) → Leads s arcs n old xs mid → Leads s arcs n mid ys new → Leads s arcs n old (xs ++ ys) new
-leads-and s arcs n old mid new [] ys p q = subst (λ k. Leads s arcs n k ys new) p q
-leads-and s arcs n old mid new (x ∷ xs) ys p q = (p.0, p.1, leads-and s arcs n p.0 mid new xs ys p.2 q)
+use Rattle.search_progress.specs.Lists.{Lists, AreFew}
+use Rattle.search_progress.proofs.RowsListed.{lists-then}
 
 -- no row
 pub lists-nothing : (s : Site) (arcs : List Arc) (old new : List Row) → new ≡ old → Lists s arcs old new
@@ -50,17 +46,6 @@ lists-row s arcs row old new w e room = record {
           nodes = refl;
           works = refl;
         }
-
--- rows and then others
-pub lists-then : (s : Site) (arcs : List Arc) (old mid new : List Row) → Lists s arcs old mid → Lists s arcs mid new → Lists s arcs old new
-lists-then s arcs old mid new p q = record {
-  rows = p.rows ++ q.rows;
-  behind = q.behind ∙ ap (λ (rows : List Row). rows ++ q.rows) p.behind ∙ append_assoc old p.rows q.rows;
-  accepted = λ n kept same.
-      subst (λ (items : List Item). Leads s arcs n kept items (record kept { rows = new })) (sym (map-append RowItem p.rows q.rows))
-      (leads-and s arcs n kept (record kept { rows = mid }) (record kept { rows = new }) (are_row_items p.rows) (are_row_items q.rows) (p.accepted n kept same)
-      (q.accepted n (record kept { rows = mid }) refl));
-}
 
 -- rows that lead on are well formed where the first ones are
 leads-well_formed : (s : Site) (arcs : List Arc) (n : ℕ) (rows : List Row) (old new : ProofState) → Leads s arcs n old (are_row_items rows) new → All (IsWellFormed s arcs) old.rows

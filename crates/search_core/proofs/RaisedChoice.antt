@@ -18,10 +18,10 @@ use Rattle.cable_definitions.specs.Tree.{IsBound}
 use Rattle.proof_laws.specs.Decided.{HasPointRows}
 use Rattle.proof_laws.proofs.FullWhole.{full-from}
 use Rattle.node_reasons.specs.Node.{NodeParts}
-use Rattle.search_core.specs.Chosen.{Closes, NeedsSplit, IsActFor, IsNodeBound}
+use Rattle.search_progress.specs.Chosen.{Closes, NeedsSplit, IsActFor, IsNodeBound}
 use Rattle.search_core.specs.Raised.{IsRaised}
-use Rattle.search_core.specs.Settled.{IsSettled, IsSettledAt}
-use Rattle.search_core.specs.declared.closing.Choice.{Choice}
+use Rattle.search_progress.specs.Settled.{IsSettled, IsSettledAt}
+use Rattle.search_progress.specs.declared.settling.Choice.{Choice}
 use Rattle.search_core.specs.declared.worth.Worth.{Worth}
 
 -- a bound that is passed on is the same bound

@@ -6,10 +6,10 @@ use Rattle.cable_definitions.specs.Site.{Site}
 use Rattle.cable_definitions.specs.Tree.{Node, Item, ProofState, IsLeastBound, AllDead}
 use Rattle.cable_definitions.specs.Core.{IsClosed, IsSpent}
 use Rattle.stored_makers.specs.Makers.{Maker}
-use Rattle.search_core.specs.Progress.{kept_of, core_of, IsSearching}
-use Rattle.search_core.specs.Works.{IsFloored}
+use Rattle.search_progress.specs.Progress.{kept_of, core_of, IsSearching}
+use Rattle.search_parts.specs.Floored.{IsFloored}
 use Rattle.search_core.specs.State.{State, KeepsParts, core}
-use Rattle.search_core.specs.declared.progress.Progress.{Progress}
+use Rattle.search_progress.specs.declared.progress.Progress.{Progress}
 
 -- a search is closed where its parts are
 pub closed-there : {F G : Type 0} → (P : Type 0) (seen whole : State F G) → seen ≡ whole → IsSearching whole.site whole.arcs whole.progress.budget whole.progress

@@ -18,15 +18,16 @@ use Rattle.cable_definitions.specs.Core.{Core, Event, Take, Work, Found, are_row
 use Rattle.branch_tree.specs.State.{status_after}
 use Rattle.proof_laws.proofs.Boxes.{set_here, append_left}
 use Rattle.proof_laws.proofs.Sound.{sound-accepted, children, set_at_node}
-use Rattle.search_core.specs.Lists.{Lists}
-use Rattle.search_core.specs.Chosen.{IsBeaten, IsActFor}
-use Rattle.search_core.specs.Progress.{kept_of, known_by, core_of, IsKnown, IsSearching}
+use Rattle.search_progress.specs.Lists.{Lists}
+use Rattle.search_progress.specs.Chosen.{IsBeaten, IsActFor}
+use Rattle.search_progress.specs.Progress.{kept_of, known_by, core_of, IsKnown, IsSearching}
 use Rattle.search_core.specs.Works.{items_since}
 use Rattle.search_core.specs.Steps.{Did}
-use Rattle.search_core.specs.declared.search.Step.{Step}
-use Rattle.search_core.specs.declared.search.Step.TheVariants.{Nothing, Took, Kept, Worked}
-use Rattle.search_core.specs.declared.progress.Progress.{Progress}
-use Rattle.search_core.proofs.Listing.{leads-and, lists-nothing, lists-points}
+use Rattle.search_core.specs.declared.machine.Step.{Step}
+use Rattle.search_core.specs.declared.machine.Step.TheVariants.{Nothing, Took, Kept, Worked}
+use Rattle.search_progress.specs.declared.progress.Progress.{Progress}
+use Rattle.search_progress.proofs.RowsListed.{leads-then}
+use Rattle.search_core.proofs.Listing.{lists-nothing, lists-points}
 
 -- ---- nodes that are worked
 -- a node that is worked is made still
@@ -110,7 +111,7 @@ searching-listed s arcs n p q is marks lists h =
       room = h.room;
       few = h.few;
       items = h.items ++ are_row_items lists.rows;
-      accepted = leads-and s arcs n _ (kept_of p) _ h.items (are_row_items lists.rows) h.accepted (lists.accepted n (kept_of p) refl);
+      accepted = leads-then s arcs n _ (kept_of p) _ h.items (are_row_items lists.rows) h.accepted (lists.accepted n (kept_of p) refl);
       rows = lists-points s arcs p.pool q.pool lists h.rows;
       are_open = h.are_open;
       held = h.held;

@@ -26,11 +26,11 @@ use Rattle.proof_laws.proofs.Sound.{children, set_at_node}
 use Rattle.proof_laws.proofs.NearestValue.{value-nearest}
 use Rattle.turbine_weights.proofs.FirstNode.{turbine_weights-out}
 use Rattle.floor_rows.specs.Reached.{ReachFloor}
-use Rattle.search_core.specs.Chosen.{IsBeaten, IsActFor, IsNodeBound}
+use Rattle.search_progress.specs.Chosen.{IsBeaten, IsActFor, IsNodeBound}
 use Rattle.search_core.specs.Raised.{BeatTurbines, BeatLast}
-use Rattle.search_core.specs.Progress.{kept_of, IsKnown, IsSearching}
-use Rattle.search_core.specs.Works.{IsFloored}
-use Rattle.search_core.specs.declared.progress.Progress.{Progress}
+use Rattle.search_progress.specs.Progress.{kept_of, IsKnown, IsSearching}
+use Rattle.search_parts.specs.Floored.{IsFloored}
+use Rattle.search_progress.specs.declared.progress.Progress.{Progress}
 use Rattle.search_core.proofs.Stepping.{made-worked, all-well_formed}
 
 -- ---- node 1

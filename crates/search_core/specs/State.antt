@@ -12,8 +12,8 @@ use Rattle.cable_definitions.specs.Core.{Core}
 use Rattle.cable_rows.specs.declared.row.Row.{Row as MadeRow}
 use Rattle.stored_makers.specs.Makers.{Maker, MakesSoundRows}
 use Rattle.stored_makers.specs.Choosers.{ChoosesFreeArcs}
-use Rattle.search_core.specs.Progress.{core_of, IsSearching, HasFirstRoom}
-use Rattle.search_core.specs.declared.progress.Progress.{Progress}
+use Rattle.search_progress.specs.Progress.{core_of, IsSearching, HasFirstRoom}
+use Rattle.search_progress.specs.declared.progress.Progress.{Progress}
 
 -- a site with its arcs, a maker of rows, a chooser of arcs, how far the search is, and whether a step lacked memory
 pub record State (F G : Type 0) : Type 0 where

@@ -6,13 +6,13 @@ use Rattle.cable_definitions.specs.Site.{Site}
 use Rattle.cable_definitions.specs.Layout.{IsLegal}
 use Rattle.cable_definitions.specs.Tree.{Item}
 use Rattle.cable_definitions.specs.Core.{Event as CoreEvent, Take as CoreTake, Work as CoreWork, Found as CoreFound, IsPossible, Happens}
-use Rattle.search_core.specs.Progress.{core_of}
+use Rattle.search_progress.specs.Progress.{core_of}
 use Rattle.search_core.specs.Works.{items_since}
-use Rattle.search_core.specs.declared.progress.Progress.{Progress}
-use Rattle.search_core.specs.declared.search.Event.{Event}
-use Rattle.search_core.specs.declared.search.Event.TheVariants.{Take, Work, Found}
-use Rattle.search_core.specs.declared.search.Step.{Step}
-use Rattle.search_core.specs.declared.search.Step.TheVariants.{Nothing, Took, Kept, Worked}
+use Rattle.search_progress.specs.declared.progress.Progress.{Progress}
+use Rattle.search_core.specs.declared.machine.Event.{Event}
+use Rattle.search_core.specs.declared.machine.Event.TheVariants.{Take, Work, Found}
+use Rattle.search_core.specs.declared.machine.Step.{Step}
+use Rattle.search_core.specs.declared.machine.Step.TheVariants.{Nothing, Took, Kept, Worked}
 
 -- the event as the definitions of the search name it
 abbrev pub event_of : Event → CoreEvent

@@ -7,10 +7,11 @@ ghost use Rattle.cable_definitions.specs.Row.{IsWellFormed};
 ghost use Rattle.search_core.specs.Raised.{BeatLast, IsRaised};
 
 use bound_shares::Shares;
-use bound_value::{Decisions, Weights, weigh};
+use bound_value::weigh;
 use cable_rows::RowPool;
 use candidate_cables::Arcs;
 use dual_weights::{Improved, better_of, improve};
+use node_works::{Decisions, Weights};
 use row_lifts::copied;
 use site_model::Site;
 use std::alloc::{AllocError, Global};

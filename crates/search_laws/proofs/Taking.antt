@@ -5,8 +5,9 @@ use Rattle.cable_definitions.specs.declared.cable.Arc.{Arc}
 use Rattle.cable_definitions.specs.Site.{Site}
 use Rattle.cable_definitions.specs.Tree.{Node}
 use Rattle.cable_definitions.specs.Core.{Core, IsOpen, Takes}
+use Rattle.proof_laws.specs.WorksLeft.{IsUnworked}
 use Rattle.proof_laws.proofs.Boxes.{set_either}
-use Rattle.search_laws.specs.Cores.{IsUnworked, AreHeldUnworked, AreHeldApart, IsCore}
+use Rattle.search_laws.specs.Cores.{AreHeldUnworked, AreHeldApart, IsCore}
 use Rattle.search_laws.proofs.Lanes.{holding-set, held_somewhere}
 
 -- an empty lane takes an unworked node

@@ -7,11 +7,8 @@ use Rattle.cable_definitions.specs.Layout.{IsLegal}
 use Rattle.cable_definitions.specs.Tree.{Unworked, Stopped, WasFull, Node, node_of, ceiling, IsAccepted}
 use Rattle.cable_definitions.specs.Core.{Core, IsBelowKnown, held_count}
 use Rattle.proof_laws.specs.Decided.{HasPointRows}
+use Rattle.proof_laws.specs.WorksLeft.{IsUnworked}
 use Rattle.run_definitions.specs.Plan.{HasIsolatedTurbine}
-
--- node number v was made and isn't worked
-abbrev pub IsUnworked : List Node → ℕ → Type 0
-IsUnworked nodes v = (node : Node) × (node_of nodes v ≡ Some node) × (node.status ≡ Unworked)
 
 -- each lane that holds a node holds one that isn't worked
 abbrev pub AreHeldUnworked : List Node → List (Option ℕ) → Type 0

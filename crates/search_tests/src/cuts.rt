@@ -1,3 +1,5 @@
+//! The rows that shares violate: sets of points, and arcs that can't be together.
+
 ghost use Rattle.std.specs.Prelude.{◌≡◌, length, IfOk};
 
 use bound_shares::Shares;

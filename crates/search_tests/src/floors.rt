@@ -1,3 +1,5 @@
+//! The cheapest in-trees of small sites, and the sets that prove them.
+
 use candidate_cables::Arcs;
 use intree_floor::{Floor, SetList, floor, has_no_bends};
 use sample_sites::{FORK, site_of};

@@ -1,3 +1,5 @@
+//! Calls on fractions, in range and out of it.
+
 use bounded_fractions::{Fraction, FractionOverflow, Overflow};
 use std::process::Abort;
 
@@ -5,7 +7,7 @@ const HALF: i64 = 1 << 61;
 
 const MOST: i64 = 1 << 62;
 
-// The fraction of a numerator and a denominator that is in range.
+/// The fraction of a numerator and a denominator that is in range.
 fn fraction(rt: &impl Abort, num: i64, den: i64) -> Fraction {
     assert!(rt; den != 0);
     Fraction::new(num, den).expect(rt, "in range")

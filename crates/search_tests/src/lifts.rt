@@ -1,11 +1,14 @@
+//! Rows whose weights are raised.
+
 ghost use Rattle.std.specs.Prelude.{All, IfOk, OnOk};
 ghost use Rattle.cable_definitions.specs.Arcs.{AreArcs};
 ghost use Rattle.cable_definitions.specs.Row.{IsWellFormed};
 
-use bound_value::{Decisions, Mark, Weights, lawful, weigh};
+use bound_value::{lawful, weigh};
 use cable_definitions::row::RowKind;
 use cable_rows::{RowPool, row_form};
 use candidate_cables::Arcs;
+use node_works::{Decisions, Mark, Weights};
 use row_lifts::{lift_all, slack};
 use sample_sites::{FORK, site_of};
 use site_model::Site;

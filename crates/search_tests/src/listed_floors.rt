@@ -1,11 +1,14 @@
+//! The rows of the cheapest in-tree, with what their weights are worth.
+
 use crate::floors::{CUT_OFF, SIDE_BY_SIDE};
-use bound_value::{Decisions, Mark, weigh};
+use bound_value::weigh;
 use cable_definitions::row::Why;
 use cable_rows::{RowKind, RowPool};
 use candidate_cables::Arcs;
 use floor_rows::list_floor_rows;
 use intree_floor::has_no_bends;
 use node_reasons::is_dead;
+use node_works::{Decisions, Mark};
 use sample_sites::site_of;
 use std::test::Fail;
 

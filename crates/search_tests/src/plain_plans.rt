@@ -1,3 +1,5 @@
+//! The cheapest layouts of small sites, by every choice.
+
 use plain_planner::{cheapest_layout, is_plain};
 use sample_sites::{FORK, site_of};
 use site_model::Site;

@@ -1,16 +1,18 @@
+//! Tables of one row or two, and the answer to each.
+
 use bounded_fractions::Fraction;
 use fraction_simplex::{Answer, FractionList, Table, solve};
 use std::alloc::Global;
 use std::process::Abort;
 use std::test::Fail;
 
-// A fraction in range.
+/// A fraction in range.
 fn fraction(rt: &impl Abort, num: i64, den: i64) -> Fraction {
     assert!(rt; den != 0);
     Fraction::new(num, den).expect(rt, "in range")
 }
 
-// The point and the multipliers of an optimal answer.
+/// The point and the multipliers of an optimal answer.
 fn optimal_parts(answer: Answer) -> Option<(FractionList, FractionList)> {
     match answer {
         Answer::Optimal { point, multipliers } => Some((point, multipliers)),
@@ -22,7 +24,7 @@ fn optimal_parts(answer: Answer) -> Option<(FractionList, FractionList)> {
     }
 }
 
-// The ray of an infeasible answer.
+/// The ray of an infeasible answer.
 fn infeasible_ray(answer: Answer) -> Option<FractionList> {
     match answer {
         Answer::Infeasible { ray } => Some(ray),
@@ -37,7 +39,7 @@ fn infeasible_ray(answer: Answer) -> Option<FractionList> {
     }
 }
 
-// The point and the ray of an unbounded answer.
+/// The point and the ray of an unbounded answer.
 fn unbounded_parts(answer: Answer) -> Option<(FractionList, FractionList)> {
     match answer {
         Answer::Unbounded { point, ray } => Some((point, ray)),
@@ -49,7 +51,7 @@ fn unbounded_parts(answer: Answer) -> Option<(FractionList, FractionList)> {
     }
 }
 
-// The answer to a program of one row and two entries.
+/// The answer to a program of one row and two entries.
 fn solved(
     rt: &impl Abort,
     alloc: Global,
@@ -86,7 +88,7 @@ fn programs_of_one_row(rt: HostRuntime) -> Result<(), Fail> {
     Ok(())
 }
 
-// Least -x with x + y = 2^62 and 3x - y = 1 asks for a result out of range.
+/// Least -x with x + y = 2^62 and 3x - y = 1 asks for a result out of range.
 #[test]
 fn names_an_overflow(rt: HostRuntime) -> Result<(), Fail> {
     let mut table = Table::new(rt.alloc(), 2, 2)?;

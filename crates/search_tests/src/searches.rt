@@ -1,10 +1,12 @@
+//! Searches of small sites to their claims, and a sink that fails.
+
 ghost use Rattle.std.specs.Prelude.{◌≤◌};
 
 use cable_definitions::cable::Cable;
 use cable_definitions::claim::Claim;
 use cable_text::MemorySink;
 use candidate_cables::Arcs;
-use plan_search::{Plan, SearchFault, search};
+use search_core::{Plan, SearchFault, search};
 use site_model::{Mode, RawKind, Site, SiteBuilder, Version};
 use std::alloc::Global;
 use std::test::Fail;

@@ -1,3 +1,5 @@
+//! Layouts that a search begins with, and layouts that are improved.
+
 use candidate_cables::Arcs;
 use layout_meaning::{Cable, Layout, Verdict, judge, part_blocked};
 use sample_sites::{FORK, ONE_FEEDER, site_of};

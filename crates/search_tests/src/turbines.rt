@@ -1,11 +1,13 @@
+//! The weights of turbines, with arcs left out or free of cost.
+
 ghost use Rattle.std.specs.Prelude.{All, IfOk, OnOk};
 ghost use Rattle.cable_definitions.specs.Arcs.{AreArcs};
 ghost use Rattle.cable_definitions.specs.Row.{IsWellFormed};
 
-use bound_value::{Decisions, Mark, Weights};
 use cable_definitions::row::RowKind;
 use cable_rows::{RowPool, row_form};
 use candidate_cables::Arcs;
+use node_works::{Decisions, Mark, Weights};
 use sample_sites::{FORK, site_of};
 use site_model::Site;
 use std::alloc::Global;

@@ -1,10 +1,13 @@
+//! The bound of a fork by weights that are improved from none.
+
 ghost use Rattle.cable_definitions.specs.Arcs.{AreArcs};
 
-use bound_value::{Decisions, Weights, lawful, weigh};
+use bound_value::{lawful, weigh};
 use cable_definitions::row::RowKind;
 use cable_rows::{RowPool, row_form};
 use candidate_cables::Arcs;
 use dual_weights::improve;
+use node_works::{Decisions, Weights};
 use sample_sites::site_of;
 use site_model::Site;
 use std::alloc::Global;

@@ -5,7 +5,7 @@ use Rattle.std.proofs.lemmas.Option.{none-some}
 use Rattle.std.proofs.lemmas.List.{nil_from_length, length-append}
 use Rattle.cable_definitions.specs.declared.site.SiteCode.{SiteCode}
 use Rattle.cable_definitions.specs.declared.site.SiteCode.TheVariants.{TooLong}
-use Rattle.cable_text.specs.Stream.{StreamState, FaultsRose, GivesFront, IsAtEnd}
+use Rattle.cable_definitions.specs.Stream.{StreamState, FaultsRose, GivesFront, IsAtEnd}
 use Rattle.cable_text.specs.Lines.{to_come, ahead, LinesState, PeeksByte, IsLonger, StandsNext, ReadsLine, ReadsPiece, next_number}
 use Rattle.cable_text.specs.declared.fault.Line.{Line}
 use Rattle.cable_text.specs.declared.fault.Line.TheVariants.{Text, End}
@@ -122,10 +122,10 @@ at_end old new text failed Text p e = absurd (no_text e)
 at_end old new text failed End p e = at_no_line old new p
 
 -- where the input ends behind the lines, nothing is left
-pub ended_input : (old new : LinesState) (left_old left_new : StreamState) (line : Line) → old.kept ≡ None
-    → IfNone old.kept (ReadsLine old new left_old left_new (Ok line)) → line ≡ End → IsAtEnd left_new.bytes
+pub ended_input : (old new : LinesState) (left_old left_new : StreamState) (line : Line) → old.fault ≡ None
+    → IfNone old.fault (ReadsLine old new left_old left_new (Ok line)) → line ≡ End → IsAtEnd left_new.bytes
 ended_input old new left_old left_new line k r e =
-    let reads = unkept old.kept (ReadsLine old new left_old left_new (Ok line)) k r in
+    let reads = unkept old.fault (ReadsLine old new left_old left_new (Ok line)) k r in
     left_at_end new.pending left_new.bytes (at_end _ _ new.text (FaultsRose left_old left_new) line reads.piece e)
 
 -- what a call for the next line finds behind a site
@@ -164,13 +164,13 @@ read_is_none text piece result q p e = p (sym q ∙ ap (piece_of text) e)
 pub refused_behind : {A : Type 0} → (old lines new : LinesState) (left_old left left_new : StreamState) (result : Result Line LineFault) (site : Site) (refusal : SiteFault) (at : ℕ)
     (bytes : List ℕ) (code other : SiteCode) (place : ℕ) (broken : Bool) (piece : Piece)
     → IsValid site → GivesFront (ahead old left_old) (ahead lines left) (site_lines site) → ahead old left_old ≡ Some bytes
-    → lines.kept ≡ None → IfNone lines.kept (ReadsLine lines new left left_new result)
+    → lines.fault ≡ None → IfNone lines.fault (ReadsLine lines new left left_new result)
     → piece_of new.text result ≡ piece → ¬ (piece ≡ NoLine) → other ≡ code_after piece
     → lines.lines ≡ lines_after old.lines (line_count (site_lines site)) → old.lines ≡ 0 → line_count (site_lines site) ≤ 34100
     → at ≡ new.number → ◌≡◌ {A = Result A SiteFault} (Err refusal) (Err (Refused code place broken)) → refusal ≡ Refused other at false
     → IsWholeLineFault bytes code place
 refused_behind {A = A} old lines new left_old left left_new result site refusal at bytes code other place broken piece v gives a k r q p o count zero few number e f =
-    let reads = unkept lines.kept (ReadsLine lines new left left_new result) k r in
+    let reads = unkept lines.fault (ReadsLine lines new left left_new result) k r in
     let same = same_refusal {A = A} refusal code other place at broken false e f in
     let found = subst (λ x. StandsNext (ahead lines left) x (ahead new left_new)) q (found_piece _ _ new.text (FaultsRose left left_new) result reads.piece (read_is_none new.text piece result q p)) in
     let fault = fault_behind site bytes _ _ _ piece at v gives a found p (number ∙ next_place new.number lines.lines old.lines (line_count (site_lines site)) reads.number count zero few) in

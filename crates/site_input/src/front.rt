@@ -1,7 +1,9 @@
+//! A site at the front of an input.
+
 ghost use Rattle.std.specs.Prelude.{◌≡◌, ℕ, ◌≤◌, List, Bool, Some, Err, IfOk};
 ghost use Rattle.cable_definitions.specs.declared.site.SiteCode.{SiteCode as Code};
 ghost use Rattle.cable_definitions.specs.Site.{IsValid};
-ghost use Rattle.cable_text.specs.Stream.{FaultsRose, FaultsOnlyRise};
+ghost use Rattle.cable_definitions.specs.Stream.{FaultsRose, FaultsOnlyRise};
 ghost use Rattle.run_definitions.specs.Bytes.{IsFrontSite, IsFrontFault};
 
 use crate::form::is_in_lines;

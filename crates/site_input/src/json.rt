@@ -1,7 +1,9 @@
+//! A JSON text to the end of an input.
+
 ghost use Rattle.std.specs.Prelude.{◌≡◌, ℕ, ◌≤◌, List, Bool, Some, None, Err, IfOk, OnOk};
 ghost use Rattle.cable_definitions.specs.declared.site.SiteCode.{SiteCode as Code};
 ghost use Rattle.cable_definitions.specs.Site.{IsValid};
-ghost use Rattle.cable_text.specs.Stream.{FaultsRose, FaultsOnlyRise, IsAtEnd};
+ghost use Rattle.cable_definitions.specs.Stream.{FaultsRose, FaultsOnlyRise, IsAtEnd};
 ghost use Rattle.cable_text.specs.Lines.{ahead};
 ghost use Rattle.run_definitions.specs.Bytes.{IsJsonSite, IsJsonFault};
 
@@ -19,7 +21,7 @@ pub(crate) fn read_json_input<S: Source>(
     lines: Lines,
     src: &mut S,
 ) -> Result<Site, SiteFault>
-    requires { lines.kept ≡ None }
+    requires { lines.fault ≡ None }
     ensures valid { IfOk result (λ s. IsValid s) }
     ensures site { IfOk result (λ s. (bytes : List ℕ) → ahead lines (S.state src.old) ≡ Some bytes → IsJsonSite bytes s) }
     ensures whole { OnOk result (IsAtEnd (S.state src.new).bytes) }

@@ -1,7 +1,9 @@
+//! A whole input as a site.
+
 ghost use Rattle.std.specs.Prelude.{◌≡◌, ℕ, ◌≤◌, List, Bool, Some, None, Err, IfOk, OnOk};
 ghost use Rattle.cable_definitions.specs.declared.site.SiteCode.{SiteCode as Code};
 ghost use Rattle.cable_definitions.specs.Site.{IsValid};
-ghost use Rattle.cable_text.specs.Stream.{FaultsRose, FaultsOnlyRise, IsAtEnd};
+ghost use Rattle.cable_definitions.specs.Stream.{FaultsRose, FaultsOnlyRise, IsAtEnd};
 ghost use Rattle.cable_text.specs.Lines.{ahead};
 ghost use Rattle.cable_definitions.specs.Document.{IsSiteText};
 ghost use Rattle.run_definitions.specs.Bytes.{IsSiteOf, IsPlanFault, IsWholeLineFault};
@@ -46,7 +48,7 @@ fn read_whole_lines<S: Source>(
     lines: &mut Lines,
     src: &mut S,
 ) -> Result<Site, SiteFault>
-    requires fresh { lines.old.kept ≡ None }
+    requires fresh { lines.old.fault ≡ None }
     requires first { lines.old.lines ≡ 0 }
     ensures valid { IfOk result (λ s. IsValid s) }
     ensures site { IfOk result (λ s. (bytes : List ℕ) → ahead lines.old (S.state src.old) ≡ Some bytes → IsSiteText bytes s) }

@@ -15,7 +15,7 @@ use Rattle.cable_definitions.specs.Plane.{IsOutside}
 use Rattle.cable_definitions.specs.Site.{IsCableType, IsKind, IsPairRule}
 use Rattle.cable_definitions.specs.Text.{name_of}
 use Rattle.cable_definitions.specs.Items.{AType, ACorner, Draft, HasNamed, IsAt, IsGood, IsFirstCode, IsOnNames, may_stand, raw_kind, raw_rule}
-use Rattle.site_model.specs.declared.builder.RawKind.{RawKind}
+use Rattle.site_model.specs.declared.raw.RawKind.{RawKind}
 use Rattle.site_model.specs.Building.{type_item, point_item, pair_item, kind_item, rule_item}
 use Rattle.site_model.specs.Drafts.{IsDraft, IsBuilder}
 use Rattle.site_model.specs.Ruled.{rule_in}

@@ -12,8 +12,8 @@ use Rattle.cable_definitions.specs.declared.site.SiteCode.TheVariants.{Range, Ba
 use Rattle.cable_definitions.specs.Naming.{IsName}
 use Rattle.cable_definitions.specs.Site.{IsKind}
 use Rattle.cable_definitions.specs.Items.{RawItem, Draft, may_stand, Field, within, coordinate, kind_fields, IsWithin, IsAt, raw_kind, IsGood, IsFirstCode, Adds}
-use Rattle.site_model.specs.declared.builder.RawKind.{RawKind}
-use Rattle.site_model.specs.declared.builder.RawKind.TheVariants.{Turbine, Substation, Bend}
+use Rattle.site_model.specs.declared.raw.RawKind.{RawKind}
+use Rattle.site_model.specs.declared.raw.RawKind.TheVariants.{Turbine, Substation, Bend}
 use Rattle.site_model.specs.Building.{point_item, kind_item}
 use Rattle.site_model.specs.Drafts.{IsDraft, item_of_point}
 use Rattle.site_model.proofs.Ranges.{IsWithin-some}

@@ -3,8 +3,8 @@ use Rattle.std.specs.Prelude.{ℕ, ℤ, pos, List, Option, Some, None}
 use Rattle.cable_definitions.specs.declared.site.Version.{Version}
 use Rattle.cable_definitions.specs.declared.site.Version.TheVariants.{One, Two}
 use Rattle.cable_definitions.specs.Items.{RawKind as KindItem, ATurbine, ASubstation, ABend, RawRule, ACharge, AClosing, RawItem, AType, APoint, APair, Stray}
-use Rattle.site_model.specs.declared.builder.RawKind.{RawKind}
-use Rattle.site_model.specs.declared.builder.RawKind.TheVariants.{Turbine, Substation, Bend}
+use Rattle.site_model.specs.declared.raw.RawKind.{RawKind}
+use Rattle.site_model.specs.declared.raw.RawKind.TheVariants.{Turbine, Substation, Bend}
 
 -- the kind of a point with its numbers as they are given
 abbrev pub kind_item : RawKind → KindItem

@@ -2,7 +2,7 @@
 
 ghost use Rattle.std.specs.Prelude.{◌≡◌, ◌≢◌, ◌<◌, ◌↔◌, IsTrue, length, Some, All};
 ghost use Rattle.cable_definitions.specs.Plane.{IsOn, edges, edges_from, last_corner};
-ghost use Rattle.cable_definitions.specs.Arcs.{IsCandidate, charge_of, rule_of, is_substation as is_substation_of, power_of_kind};
+ghost use Rattle.cable_definitions.specs.Arcs.{IsCandidate, charge_of, rule_of};
 ghost use Rattle.site_model.specs.Passing.{PassesNone, IsClear};
 
 use crate::Site;
@@ -21,13 +21,13 @@ impl Site {
     {
         let start = &self.points()[from as usize];
         let end = &self.points()[to as usize];
-        if from == to || is_substation(start.kind) {
+        if from == to || start.kind.is_substation() {
             return false;
         }
         if self.is_closed(from, to) {
             return false;
         }
-        if power_of(start.kind) > self.largest_capacity() {
+        if start.kind.power() > self.largest_capacity() {
             return false;
         }
         if !passes_none(self.points(), from, to, start.at, end.at) {
@@ -68,23 +68,6 @@ impl Site {
             return None;
         }
         rule_in(table, a, b)
-    }
-}
-
-/// Whether a substation stands at a point.
-fn is_substation(kind: Kind) -> bool
-    ensures { result ≡ is_substation_of kind }
-{
-    matches!(kind, Kind::Substation { .. })
-}
-
-/// What a point feeds in.
-fn power_of(kind: Kind) -> u32
-    ensures { result ≡ power_of_kind kind }
-{
-    match kind {
-        Kind::Turbine { power } => power,
-        _ => 0,
     }
 }
 

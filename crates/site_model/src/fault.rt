@@ -1,3 +1,5 @@
+//! Why an item is refused, and why no site is read.
+
 ghost use Rattle.std.specs.Prelude.{◌≡◌, true, false};
 
 use cable_definitions::site::SiteCode;

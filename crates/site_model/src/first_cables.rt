@@ -10,8 +10,8 @@ use crate::Site;
 use cable_definitions::site::Kind;
 
 impl Site {
-    /// The sum over the turbines of the least cost of a candidate arc out of it, with the turbine's own power as load. None exactly
-    /// where some turbine has no candidate arc.
+    /// The sum, over the turbines, of the cheapest first cables, in cost units: the least cost of a candidate arc out of the turbine, with
+    /// its own power as load. None exactly where some turbine has no candidate arc.
     pub fn nearest(&self) -> Option<u64>
         ensures none { IfNone result ((p : ℕ) × IsTrue (is_turbine_of (kind_of self.now p)) × ((q : ℕ) → ¬ (IsCandidate self.now p q))) }
         ensures total { IfSome result (λ total. IsNearest self.now total) }

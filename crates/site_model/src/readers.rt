@@ -1,7 +1,7 @@
 //! What a site says of its points and its cable types by their numbers.
 
 ghost use Rattle.std.specs.Prelude.{◌≡◌, ◌≤◌, ◌<◌, ◌↔◌, IsTrue, length, IfSome, IfNone, Any};
-ghost use Rattle.cable_definitions.specs.Site.{IsKind};
+ghost use Rattle.cable_definitions.specs.Site.{IsKind, IsValid};
 ghost use Rattle.cable_definitions.specs.Text.{name_of};
 ghost use Rattle.cable_definitions.specs.Layout.{SamePair, PairsClash};
 ghost use Rattle.cable_definitions.specs.Arcs.{kind_of, power_of, capacity_of, largest_capacity};
@@ -28,10 +28,7 @@ impl Site {
         ensures power { result ≡ power_of self.now p }
         ensures most { result ≤ 1000 }
     {
-        match self.kind(p) {
-            Kind::Turbine { power } => power,
-            _ => 0,
-        }
+        self.kind(p).power()
     }
 
     /// The name of a point by its number, as bytes. A number past the points has no bytes.
@@ -48,6 +45,7 @@ impl Site {
     pub fn number_of(&self, name: &[u8]) -> Option<u32>
         ensures some { IfSome result (λ p. (p < length self.now.points) × (name_of self.now p ≡ name.now)) }
         ensures none { IfNone result (¬ (Any (λ p. p.name ≡ name.now) self.now.points)) }
+        ensures valid { IsValid self.now }
     {
         for (number, point) in self.points().iter().enumerate() {
             if is_name(point.name.as_slice(), name) {

@@ -1,3 +1,5 @@
+//! The candidate arcs of a small site.
+
 use candidate_cables::Arcs;
 use sample_sites::site_of;
 use std::test::Fail;

@@ -1,3 +1,5 @@
+//! The arcs that clash with one, beside a test of every arc.
+
 ghost use Rattle.std.specs.Prelude.{◌<◌, IsTrue, length};
 
 use candidate_cables::{Arc, Arcs};

@@ -1,3 +1,5 @@
+//! Parts that are grown turbine by turbine until one is blocked.
+
 use layout_meaning::{Cable, JoinFault, Layout, LayoutFull, PartialLayout, Rule, part_blocked};
 use sample_sites::site_of;
 use std::alloc::{AllocError, Global};

@@ -1,3 +1,5 @@
+//! Lines, numbers and words of sources and sinks in memory.
+
 use cable_text::*;
 use std::test::Fail;
 

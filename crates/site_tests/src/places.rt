@@ -1,3 +1,5 @@
+//! Segments with common points, and places round a polygon.
+
 use plane_geometry::{Place, clash, meets, outside};
 
 /// `parts * from + share * (to - from)`, for small numbers.

@@ -1,3 +1,5 @@
+//! The reports of layouts, whole and cut off.
+
 ghost use Rattle.std.specs.Prelude.{All};
 ghost use Rattle.plan_report.specs.Reported.{IsReported};
 ghost use Rattle.site_text.specs.Verdict.{NamesPoint};

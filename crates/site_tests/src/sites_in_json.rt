@@ -1,3 +1,5 @@
+//! Sites in JSON, read or refused.
+
 use cable_text::MemorySink;
 use site_json::read_json;
 use site_model::{SiteCode, SiteFault};

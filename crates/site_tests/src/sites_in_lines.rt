@@ -1,3 +1,5 @@
+//! Sites in lines, read, written again or refused.
+
 use cable_text::{Lines, MemorySink, MemorySource};
 use site_model::{SiteCode, SiteFault};
 use site_text::*;
@@ -7,7 +9,7 @@ use std::test::Fail;
 const EVERY_KIND: &[u8] =
     b"site 1\nmode strings\ntype 200 100\ntype 400 170\nsubstation North 0 0 4 10000\nturbine T1 0 1000 100\nturbine T2 -300 1400 100\nbend K 200 500\nobstacle 4\ncorner -100 400\ncorner 100 400\ncorner 100 600\ncorner -100 600\ncharge K T1 7500\nclosed North T2\nend site\n";
 
-// The fault of a text, if it has one.
+/// The fault of a text, if it has one.
 fn fault_of(alloc: Global, text: &[u8]) -> Result<Option<SiteFault>, Fail> {
     let mut source = MemorySource::new(Vec::from_slice(alloc, text)?, 64, Vec::new(alloc));
     let mut lines = Lines::new(alloc)?;
@@ -17,7 +19,7 @@ fn fault_of(alloc: Global, text: &[u8]) -> Result<Option<SiteFault>, Fail> {
     }
 }
 
-// A refusal.
+/// A refusal.
 fn refusal(code: SiteCode, place: u64, broken_line: bool) -> Option<SiteFault> {
     Some(SiteFault::Refused {
         code,

@@ -17,7 +17,7 @@ use Rattle.site_model.proofs.Codes.{IsFirstCode-at, KeepsBelow-past, KeepsBelow-
 use Rattle.site_model.proofs.Ranges.{passed}
 use Rattle.site_text.specs.declared.add.Progress.{Progress}
 use Rattle.site_text.specs.Item.{held_in_128, held_number, held_item, map_item}
-use Rattle.site_text.specs.Adding.{told, told_loss, unspelled, answer_of, Answers}
+use Rattle.site_text.specs.Adding.{told, loss_for, unspelled, answer_of, Answers}
 use Rattle.site_text.proofs.Held.{held_same, held_beyond}
 
 -- a field with its number changed so
@@ -284,10 +284,10 @@ spelled_words fs b h = (λ t. to fs (h.0 t), λ k. h.1 (from fs k))
     from (x ∷ gs) k = All-cons IsSome x.value (map (λ (y : Field). y.value) gs) (All-head IsSpelled x gs k) (from gs (All-tail IsSpelled x gs k))
 
 -- a cable type as the builder is told it
-pub told_type : (v w : Version) (c p l t : Option ℤ) → v ≡ w → t ≡ told_loss v l → (w ≡ One → l ≡ Some (pos 0)) → type_item w (told c) (told p) t ≡ map_item filled (AType c p l)
-told_type v w c p l t same is none = let P : Version → Type 0 = λ u. t ≡ told_loss u l → type_item w (told c) (told p) t ≡ map_item filled (AType c p l) in subst P (sym same) (by_version w none) is
+pub told_type : (v w : Version) (c p l t : Option ℤ) → v ≡ w → t ≡ loss_for v l → (w ≡ One → l ≡ Some (pos 0)) → type_item w (told c) (told p) t ≡ map_item filled (AType c p l)
+told_type v w c p l t same is none = let P : Version → Type 0 = λ u. t ≡ loss_for u l → type_item w (told c) (told p) t ≡ map_item filled (AType c p l) in subst P (sym same) (by_version w none) is
   where
-    by_version : (u : Version) → (u ≡ One → l ≡ Some (pos 0)) → t ≡ told_loss u l → type_item u (told c) (told p) t ≡ map_item filled (AType c p l)
+    by_version : (u : Version) → (u ≡ One → l ≡ Some (pos 0)) → t ≡ loss_for u l → type_item u (told c) (told p) t ≡ map_item filled (AType c p l)
     by_version One zero e = rw (e, zero refl) refl
     by_version Two zero e = rw e refl
 

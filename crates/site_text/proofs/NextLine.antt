@@ -5,7 +5,7 @@ use Rattle.cable_definitions.specs.declared.site.SiteCode.{SiteCode}
 use Rattle.cable_definitions.specs.declared.site.SiteCode.TheVariants.{TooLong, Form}
 use Rattle.cable_definitions.specs.Text.{Whole, LongLine, CutLine, NoLine, HasNoNewline}
 use Rattle.cable_definitions.specs.Items.{RawItem, Unended, Missing, Overlong, Draft, IsFirstCode, HasWords, IsItemOf, is_broken_line}
-use Rattle.cable_text.specs.Stream.{StreamState, FaultsRose, GivesFront}
+use Rattle.cable_definitions.specs.Stream.{StreamState, FaultsRose, GivesFront}
 use Rattle.cable_text.specs.Lines.{LinesState, ahead, StandsNext, ReadsPiece, ReadsLine, next_number}
 use Rattle.cable_text.specs.declared.fault.Line.{Line}
 use Rattle.cable_text.specs.declared.fault.Line.TheVariants.{End}

@@ -9,7 +9,7 @@ use Rattle.cable_definitions.specs.declared.site.SiteCode.{SiteCode}
 use Rattle.cable_definitions.specs.Site.{Site, IsValid}
 use Rattle.cable_definitions.specs.Text.{Whole, HasNoNewline, line_count, site_lines}
 use Rattle.cable_definitions.specs.Items.{Draft, RawItem, TheEnd, IsGood, Adds, IsFirstCode, IsItemAt, ReadsItems, IsLineFault, empty_draft}
-use Rattle.cable_text.specs.Stream.{GivesFront}
+use Rattle.cable_definitions.specs.Stream.{GivesFront}
 use Rattle.cable_text.specs.Lines.{next_number}
 use Rattle.site_text.specs.Reading.{lines_after, ReadsItemLine, ReadsItem, IsNextFault, FaultsNext, Faults}
 use Rattle.site_text.proofs.NextLine.{line_fault}

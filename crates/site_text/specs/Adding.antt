@@ -17,9 +17,9 @@ told None = pos (2 ^ 127 - 1)
 told (Some z) = z
 
 -- the loss that the builder is told, which takes none in version 1
-abbrev pub told_loss : Version → Option ℤ → Option ℤ
-told_loss One loss = None
-told_loss Two loss = Some (told loss)
+abbrev pub loss_for : Version → Option ℤ → Option ℤ
+loss_for One loss = None
+loss_for Two loss = Some (told loss)
 
 -- the code of an item with a word that spells no number, where the builder was told one beyond every range in its place
 abbrev pub unspelled : SiteCode → SiteCode

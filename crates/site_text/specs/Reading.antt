@@ -10,7 +10,7 @@ use Rattle.site_model.specs.declared.fault.BuildFault.{BuildFault}
 use Rattle.site_model.specs.declared.fault.BuildFault.TheVariants.{Refused, Memory}
 use Rattle.site_model.specs.declared.fault.SiteFault.{SiteFault}
 use Rattle.site_model.specs.declared.fault.SiteFault.TheVariants.{Refused as RefusedSite, Memory as NoMemory}
-use Rattle.cable_text.specs.Stream.{GivesFront}
+use Rattle.cable_definitions.specs.Stream.{GivesFront}
 use Rattle.cable_text.specs.Lines.{LinesState, StandsNext, next_number}
 use Rattle.site_text.specs.Adding.{TakesItem}
 
@@ -52,7 +52,7 @@ pub record ReadsText (before after : Option (List ℕ)) (old new : LinesState) :
   pub short : length new.text ≤ 4096
   pub number : new.number ≡ next_number old.lines
   pub lines : new.lines ≡ next_number old.lines
-  pub kept : new.kept ≡ None
+  pub no_fault : new.fault ≡ None
 
 -- a line was read that says this item
 pub record ReadsItemLine (version : Version) (item : RawItem) (before after : Option (List ℕ)) (old new : ℕ) : Type 0 where

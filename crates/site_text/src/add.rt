@@ -6,7 +6,7 @@ ghost use Rattle.cable_definitions.specs.Items.{AType, APoint, AnObstacle, ACorn
 ghost use Rattle.cable_definitions.specs.Text.{HasNoNewline, Whole};
 ghost use Rattle.site_model.specs.Drafts.{FitsVersion};
 ghost use Rattle.site_text.specs.Item.{item_held, kind_held, rule_held};
-ghost use Rattle.site_text.specs.Adding.{told, told_loss, answer_of, Answers, TextAdds, TextBreaks};
+ghost use Rattle.site_text.specs.Adding.{told, loss_for, answer_of, Answers, TextAdds, TextBreaks};
 
 use crate::item::{Item, ItemKind, ItemRule, item_of};
 use site_model::{BuildFault, RawKind, SiteBuilder, SiteCode, Version};
@@ -18,7 +18,11 @@ pub enum Progress {
     Ended,
 }
 
-// Gives the builder what the text of a line behind the mode says.
+/// Gives the builder what the text of a line behind the mode says.
+///
+/// # Errors
+///
+/// `Refused` with the first code that the line breaks, or `Memory` where there is none for its item.
 pub fn add_text(
     builder: &mut SiteBuilder,
     version: Version,
@@ -38,7 +42,7 @@ pub fn add_text(
     }
 }
 
-// Gives the builder an item that is not the end.
+/// Gives the builder an item that is not the end.
 fn add_item(builder: &mut SiteBuilder, version: Version, item: Item) -> Result<Progress, BuildFault>
     requires other { item_held item ≢ TheEnd }
     requires version { version ≡ builder.old.site.version }
@@ -62,8 +66,8 @@ fn add_item(builder: &mut SiteBuilder, version: Version, item: Item) -> Result<P
     }
 }
 
-// The number that the builder is told. In the place of a word that spells none it is one beyond
-// every range, so that the builder finds what comes before the shape of an item.
+/// The number that the builder is told. In the place of a word that spells none it is one beyond
+/// every range, so that the builder finds what comes before the shape of an item.
 fn told(number: Option<i128>) -> i128
     ensures value { result ≡ told number }
     ensures least { negsuc (2 ^ 127 - 1) ≤ℤ result }
@@ -75,9 +79,9 @@ fn told(number: Option<i128>) -> i128
     }
 }
 
-// The loss that the builder is told, which takes none in version 1.
-fn told_loss(version: Version, loss: Option<i128>) -> Option<i128>
-    ensures { result ≡ told_loss version loss }
+/// The loss that the builder is told, which takes none in version 1.
+fn loss_for(version: Version, loss: Option<i128>) -> Option<i128>
+    ensures { result ≡ loss_for version loss }
 {
     match version {
         Version::One => None,
@@ -85,7 +89,7 @@ fn told_loss(version: Version, loss: Option<i128>) -> Option<i128>
     }
 }
 
-// Whether each word spells a number.
+/// Whether each word spells a number.
 fn are_spelled(numbers: &[Option<i128>]) -> bool
     ensures { IsTrue result ↔ All IsSome numbers.now }
 {
@@ -97,7 +101,7 @@ fn are_spelled(numbers: &[Option<i128>]) -> bool
     true
 }
 
-// What the builder answers of an item whose numbers may not all be spelled.
+/// What the builder answers of an item whose numbers may not all be spelled.
 fn answer(outcome: Result<(), BuildFault>, is_spelled: bool) -> Result<Progress, BuildFault>
     ensures { result ≡ answer_of outcome is_spelled }
 {
@@ -110,7 +114,7 @@ fn answer(outcome: Result<(), BuildFault>, is_spelled: bool) -> Result<Progress,
     }
 }
 
-// Gives the builder a cable type.
+/// Gives the builder a cable type.
 fn add_type(
     builder: &mut SiteBuilder,
     version: Version,
@@ -122,11 +126,11 @@ fn add_type(
     requires loss { FitsVersion builder.old (AType capacity price loss) }
     ensures { Answers result builder.old (AType capacity price loss) builder.new }
 {
-    let outcome = builder.add_type(told(capacity), told(price), told_loss(version, loss));
+    let outcome = builder.add_type(told(capacity), told(price), loss_for(version, loss));
     answer(outcome, are_spelled(&[capacity, price, loss]))
 }
 
-// Gives the builder a point.
+/// Gives the builder a point.
 fn add_point(
     builder: &mut SiteBuilder,
     name: &[u8],
@@ -154,7 +158,7 @@ fn add_point(
     }
 }
 
-// Begins an obstacle.
+/// Begins an obstacle.
 fn add_obstacle(builder: &mut SiteBuilder, corners: Option<i128>) -> Result<Progress, BuildFault>
     ensures { Answers result builder.old (AnObstacle corners) builder.new }
 {
@@ -162,7 +166,7 @@ fn add_obstacle(builder: &mut SiteBuilder, corners: Option<i128>) -> Result<Prog
     answer(outcome, are_spelled(&[corners]))
 }
 
-// Gives the builder a corner.
+/// Gives the builder a corner.
 fn add_corner(
     builder: &mut SiteBuilder,
     x: Option<i128>,
@@ -174,7 +178,7 @@ fn add_corner(
     answer(outcome, are_spelled(&[x, y]))
 }
 
-// Gives the builder a pair rule.
+/// Gives the builder a pair rule.
 fn add_pair(
     builder: &mut SiteBuilder,
     a: &[u8],

@@ -59,7 +59,7 @@ pub enum Item<'a> {
     Stray,
 }
 
-// The item of a line's text in this version.
+/// The item of a line's text in this version.
 pub fn item_of(version: Version, text: &[u8]) -> Item
     requires { HasNoNewline text.now }
     ensures { IsItemOfLine version text.now result }
@@ -71,7 +71,7 @@ pub fn item_of(version: Version, text: &[u8]) -> Item
     }
 }
 
-// The item of a keyword and the words that follow it.
+/// The item of a keyword and the words that follow it.
 fn item_after<'a>(version: Version, keyword: Keyword, rest: Option<&'a [u8]>) -> Item<'a>
     ensures { IsSaid version (keyword_text keyword ∷ rest_parts (option_copied rest.entry)) result }
 {
@@ -90,7 +90,7 @@ fn item_after<'a>(version: Version, keyword: Keyword, rest: Option<&'a [u8]>) ->
     }
 }
 
-// The number that a word spells.
+/// The number that a word spells.
 fn number_of(word: &[u8]) -> Option<i128>
     ensures { ReadsAs word.now result }
 {
@@ -101,7 +101,7 @@ fn number_of(word: &[u8]) -> Option<i128>
     }
 }
 
-// The mode that a word names.
+/// The mode that a word names.
 fn mode_of(word: &[u8]) -> Option<Mode>
     ensures { NamesModeOf word.now result }
 {
@@ -114,7 +114,7 @@ fn mode_of(word: &[u8]) -> Option<Mode>
     None
 }
 
-// What follows the word `site`.
+/// What follows the word `site`.
 fn version_item<'a>(rest: Option<&'a [u8]>) -> Item<'a>
     ensures { (version : AnyVersion) → IsSaid version (codes "site" ∷ rest_parts (option_copied rest.entry)) result }
 {
@@ -124,7 +124,7 @@ fn version_item<'a>(rest: Option<&'a [u8]>) -> Item<'a>
     }
 }
 
-// What follows the word `mode`.
+/// What follows the word `mode`.
 fn mode_item<'a>(rest: Option<&'a [u8]>) -> Item<'a>
     ensures { (version : AnyVersion) → IsSaid version (codes "mode" ∷ rest_parts (option_copied rest.entry)) result }
 {
@@ -134,7 +134,7 @@ fn mode_item<'a>(rest: Option<&'a [u8]>) -> Item<'a>
     }
 }
 
-// What follows the word `type`.
+/// What follows the word `type`.
 fn type_item<'a>(version: Version, rest: Option<&'a [u8]>) -> Item<'a>
     ensures { IsSaid version (codes "type" ∷ rest_parts (option_copied rest.entry)) result }
 {
@@ -144,7 +144,7 @@ fn type_item<'a>(version: Version, rest: Option<&'a [u8]>) -> Item<'a>
     }
 }
 
-// What follows the word `type` in version 1.
+/// What follows the word `type` in version 1.
 fn plain_type_item<'a>(rest: Option<&'a [u8]>) -> Item<'a>
     ensures { IsSaid Version.One (codes "type" ∷ rest_parts (option_copied rest.entry)) result }
 {
@@ -158,7 +158,7 @@ fn plain_type_item<'a>(rest: Option<&'a [u8]>) -> Item<'a>
     }
 }
 
-// What follows the word `type` in version 2.
+/// What follows the word `type` in version 2.
 fn lossy_type_item<'a>(rest: Option<&'a [u8]>) -> Item<'a>
     ensures { IsSaid Version.Two (codes "type" ∷ rest_parts (option_copied rest.entry)) result }
 {
@@ -172,7 +172,7 @@ fn lossy_type_item<'a>(rest: Option<&'a [u8]>) -> Item<'a>
     }
 }
 
-// What follows the word `substation`.
+/// What follows the word `substation`.
 fn substation_item<'a>(rest: Option<&'a [u8]>) -> Item<'a>
     ensures { (version : AnyVersion) → IsSaid version (codes "substation" ∷ rest_parts (option_copied rest.entry)) result }
 {
@@ -187,7 +187,7 @@ fn substation_item<'a>(rest: Option<&'a [u8]>) -> Item<'a>
     }
 }
 
-// What follows the word `turbine`.
+/// What follows the word `turbine`.
 fn turbine_item<'a>(rest: Option<&'a [u8]>) -> Item<'a>
     ensures { (version : AnyVersion) → IsSaid version (codes "turbine" ∷ rest_parts (option_copied rest.entry)) result }
 {
@@ -202,7 +202,7 @@ fn turbine_item<'a>(rest: Option<&'a [u8]>) -> Item<'a>
     }
 }
 
-// What follows the word `bend`.
+/// What follows the word `bend`.
 fn bend_item<'a>(rest: Option<&'a [u8]>) -> Item<'a>
     ensures { (version : AnyVersion) → IsSaid version (codes "bend" ∷ rest_parts (option_copied rest.entry)) result }
 {
@@ -217,7 +217,7 @@ fn bend_item<'a>(rest: Option<&'a [u8]>) -> Item<'a>
     }
 }
 
-// What follows the word `obstacle`.
+/// What follows the word `obstacle`.
 fn obstacle_item<'a>(rest: Option<&'a [u8]>) -> Item<'a>
     ensures { (version : AnyVersion) → IsSaid version (codes "obstacle" ∷ rest_parts (option_copied rest.entry)) result }
 {
@@ -227,7 +227,7 @@ fn obstacle_item<'a>(rest: Option<&'a [u8]>) -> Item<'a>
     }
 }
 
-// What follows the word `corner`.
+/// What follows the word `corner`.
 fn corner_item<'a>(rest: Option<&'a [u8]>) -> Item<'a>
     ensures { (version : AnyVersion) → IsSaid version (codes "corner" ∷ rest_parts (option_copied rest.entry)) result }
 {
@@ -240,7 +240,7 @@ fn corner_item<'a>(rest: Option<&'a [u8]>) -> Item<'a>
     }
 }
 
-// What follows the word `charge`.
+/// What follows the word `charge`.
 fn charge_item<'a>(rest: Option<&'a [u8]>) -> Item<'a>
     ensures { (version : AnyVersion) → IsSaid version (codes "charge" ∷ rest_parts (option_copied rest.entry)) result }
 {
@@ -254,7 +254,7 @@ fn charge_item<'a>(rest: Option<&'a [u8]>) -> Item<'a>
     }
 }
 
-// What follows the word `closed`.
+/// What follows the word `closed`.
 fn closed_item<'a>(rest: Option<&'a [u8]>) -> Item<'a>
     ensures { (version : AnyVersion) → IsSaid version (codes "closed" ∷ rest_parts (option_copied rest.entry)) result }
 {
@@ -268,7 +268,7 @@ fn closed_item<'a>(rest: Option<&'a [u8]>) -> Item<'a>
     }
 }
 
-// What follows the word `end`.
+/// What follows the word `end`.
 fn end_item<'a>(rest: Option<&'a [u8]>) -> Item<'a>
     ensures { (version : AnyVersion) → IsSaid version (codes "end" ∷ rest_parts (option_copied rest.entry)) result }
 {

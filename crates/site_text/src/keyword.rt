@@ -22,7 +22,7 @@ pub enum Keyword {
     End,
 }
 
-// The keyword that the word is; none where it is none.
+/// The keyword that the word is; none where it is none.
 pub fn keyword_of(word: &[u8]) -> Option<Keyword>
     ensures some { IfSome result (λ k. word.now ≡ keyword_text k) }
     ensures none { IfNone result ((k : Key) → word.now ≢ keyword_text k) }

@@ -13,4 +13,4 @@ mod write;
 pub use law::good_items_are_a_site;
 pub use read::read_site;
 pub use verdict::write_verdict;
-pub use write::{name_of, write_site};
+pub use write::write_site;

@@ -5,7 +5,7 @@ ghost use Rattle.cable_definitions.specs.declared.site.SiteCode.{SiteCode as Any
 ghost use Rattle.cable_definitions.specs.Site.{IsValid, version_number, latest_version};
 ghost use Rattle.cable_definitions.specs.Text.{HasNoNewline, site_lines, line_count};
 ghost use Rattle.cable_definitions.specs.Items.{Draft, TheEnd, IsFirstCode, IsGood, IsLineFault, empty_draft};
-ghost use Rattle.cable_text.specs.Stream.{GivesFront, FaultsRose, FaultsOnlyRise};
+ghost use Rattle.cable_definitions.specs.Stream.{GivesFront, FaultsRose, FaultsOnlyRise};
 ghost use Rattle.cable_text.specs.Lines.{ahead, next_number};
 ghost use Rattle.site_text.specs.Adding.{TextAdds, TextBreaks};
 ghost use Rattle.site_text.specs.Reading.{lines_after, most_lines, versioned, fault_of_line, begun, ReadsText, ReadsItemLine, ReadsItem, Faults};
@@ -16,7 +16,7 @@ use cable_text::{Line, LineFault, Lines, Source};
 use site_model::{BuildFault, Mode, Site, SiteBuilder, SiteCode, SiteFault, Version};
 use std::alloc::Global;
 
-/// ReadsItem the lines of a site, up to and with the line `end site`, and no byte more, under the
+/// Reads the lines of a site, up to and with the line `end site`, and no byte more, under the
 /// condition that `lines` keeps no fault. A site has at most 34,100 lines.
 ///
 /// # Errors
@@ -30,10 +30,10 @@ pub fn read_site<S: Source>(
     lines: &mut Lines,
     src: &mut S,
 ) -> Result<Site, SiteFault>
-    requires { lines.old.kept ≡ None }
+    requires { lines.old.fault ≡ None }
     ensures valid { IfOk result (λ s. IsValid s) }
     ensures text { IfOk result (λ s. GivesFront (ahead lines.old (S.state src.old)) (ahead lines.new (S.state src.new)) (site_lines s)) }
-    ensures kept { OnOk result (lines.new.kept ≡ None) }
+    ensures no_fault { OnOk result (lines.new.fault ≡ None) }
     ensures lines { IfOk result (λ s. lines.new.lines ≡ lines_after lines.old.lines (line_count (site_lines s))) }
     ensures few { IfOk result (λ s. line_count (site_lines s) ≤ most_lines) }
     ensures refused { (bytes : List ℕ) (code : AnyCode) (place : ℕ) (broken : Bool) → (ahead lines.old (S.state src.old)) ≡ Some bytes → lines.old.lines + most_lines < 2 ^ 64
@@ -52,9 +52,9 @@ pub fn read_site<S: Source>(
     }
 }
 
-// ReadsItem the next line, so that it is the text of `lines`.
+/// Reads the next line, so that it is the text of `lines`.
 fn next_text<S: Source>(lines: &mut Lines, src: &mut S) -> Result<(), SiteFault>
-    requires { lines.old.kept ≡ None }
+    requires { lines.old.fault ≡ None }
     ensures reads { OnOk result (ReadsText (ahead lines.old (S.state src.old)) (ahead lines.new (S.state src.new)) lines.old lines.new) }
     ensures refused { (code : AnyCode) (place : ℕ) (broken : Bool) → result ≡ Err (SiteFault.Refused code place broken)
         → (d : Draft) → Faults d (ahead lines.old (S.state src.old)) lines.old.lines code place broken }
@@ -70,7 +70,7 @@ fn next_text<S: Source>(lines: &mut Lines, src: &mut S) -> Result<(), SiteFault>
     }
 }
 
-// The fault of a whole line that the builder refuses.
+/// The fault of a whole line that the builder refuses.
 fn fault_of(fault: BuildFault, place: u64) -> SiteFault
     ensures { result ≡ fault_of_line fault place }
 {
@@ -80,12 +80,12 @@ fn fault_of(fault: BuildFault, place: u64) -> SiteFault
     }
 }
 
-// ReadsItem the line of the version.
+/// Reads the line of the version.
 fn read_version<S: Source>(lines: &mut Lines, src: &mut S) -> Result<Version, SiteFault>
-    requires { lines.old.kept ≡ None }
+    requires { lines.old.fault ≡ None }
     ensures version { IfOk result (λ version. version_number version ≤ latest_version) }
     ensures reads { IfOk result (λ version. ReadsItem empty_draft (versioned version) (ahead lines.old (S.state src.old)) (ahead lines.new (S.state src.new)) lines.old.lines lines.new.lines) }
-    ensures kept { OnOk result (lines.new.kept ≡ None) }
+    ensures no_fault { OnOk result (lines.new.fault ≡ None) }
     ensures refused { (code : AnyCode) (place : ℕ) (broken : Bool) → result ≡ Err (SiteFault.Refused code place broken) → Faults empty_draft (ahead lines.old (S.state src.old)) lines.old.lines code place broken }
     ensures read { result ≡ Err SiteFault.Read → FaultsRose (S.state src.old) (S.state src.new) }
     ensures count { FaultsOnlyRise (S.state src.old) (S.state src.new) }
@@ -97,7 +97,7 @@ fn read_version<S: Source>(lines: &mut Lines, src: &mut S) -> Result<Version, Si
     }
 }
 
-// The version that a text says, or the first code that it breaks as the first line of a site.
+/// The version that a text says, or the first code that it breaks as the first line of a site.
 fn version_of(text: &[u8]) -> Result<Version, SiteCode>
     requires { HasNoNewline text.now }
     ensures version { IfOk result (λ version. version_number version ≤ latest_version) }
@@ -117,11 +117,11 @@ fn version_of(text: &[u8]) -> Result<Version, SiteCode>
     }
 }
 
-// ReadsItem the line of the mode.
+/// Reads the line of the mode.
 fn read_mode<S: Source>(version: Version, lines: &mut Lines, src: &mut S) -> Result<Mode, SiteFault>
-    requires { lines.old.kept ≡ None }
+    requires { lines.old.fault ≡ None }
     ensures reads { IfOk result (λ mode. ReadsItem (versioned version) (begun version mode) (ahead lines.old (S.state src.old)) (ahead lines.new (S.state src.new)) lines.old.lines lines.new.lines) }
-    ensures kept { OnOk result (lines.new.kept ≡ None) }
+    ensures no_fault { OnOk result (lines.new.fault ≡ None) }
     ensures refused { (code : AnyCode) (place : ℕ) (broken : Bool) → result ≡ Err (SiteFault.Refused code place broken) → Faults (versioned version) (ahead lines.old (S.state src.old)) lines.old.lines code place broken }
     ensures read { result ≡ Err SiteFault.Read → FaultsRose (S.state src.old) (S.state src.new) }
     ensures count { FaultsOnlyRise (S.state src.old) (S.state src.new) }
@@ -133,7 +133,7 @@ fn read_mode<S: Source>(version: Version, lines: &mut Lines, src: &mut S) -> Res
     }
 }
 
-// The mode that a text says, or the first code that it breaks as the line behind the version.
+/// The mode that a text says, or the first code that it breaks as the line behind the version.
 fn mode_of(version: Version, text: &[u8]) -> Result<Mode, SiteCode>
     requires { HasNoNewline text.now }
     ensures good { IfOk result (λ mode. TextAdds (versioned version) text.now (begun version mode)) }
@@ -146,7 +146,7 @@ fn mode_of(version: Version, text: &[u8]) -> Result<Mode, SiteCode>
     }
 }
 
-// The builder of a site that has nothing but its version and its mode.
+/// The builder of a site that has nothing but its version and its mode.
 fn begin(alloc: Global, version: Version, mode: Mode) -> Result<SiteBuilder, SiteFault>
     requires { version_number version ≤ latest_version }
     ensures builder { IfOk result (λ builder. builder ≡ begun version mode) }
@@ -158,21 +158,21 @@ fn begin(alloc: Global, version: Version, mode: Mode) -> Result<SiteBuilder, Sit
     }
 }
 
-// ReadsItem a line behind the mode and gives the builder what it says.
+/// Reads a line behind the mode and gives the builder what it says.
 fn read_item<S: Source>(
     builder: &mut SiteBuilder,
     version: Version,
     lines: &mut Lines,
     src: &mut S,
 ) -> Result<Progress, SiteFault>
-    requires kept { lines.old.kept ≡ None }
+    requires no_fault { lines.old.fault ≡ None }
     requires version { version ≡ builder.old.site.version }
     requires begun { 2 ≤ builder.old.stage }
     ensures added { result ≡ Ok Progress.Added → ReadsItem builder.old builder.new (ahead lines.old (S.state src.old)) (ahead lines.new (S.state src.new)) lines.old.lines lines.new.lines }
     ensures ended { result ≡ Ok Progress.Ended → ReadsItemLine version TheEnd (ahead lines.old (S.state src.old)) (ahead lines.new (S.state src.new)) lines.old.lines lines.new.lines }
     ensures unchanged { result ≡ Ok Progress.Ended → builder.new ≡ builder.old }
     ensures number { result ≡ Ok Progress.Ended → lines.new.number ≡ next_number lines.old.lines }
-    ensures kept { OnOk result (lines.new.kept ≡ None) }
+    ensures no_fault { OnOk result (lines.new.fault ≡ None) }
     ensures refused { (code : AnyCode) (place : ℕ) (broken : Bool) → result ≡ Err (SiteFault.Refused code place broken) → Faults builder.old (ahead lines.old (S.state src.old)) lines.old.lines code place broken }
     ensures read { result ≡ Err SiteFault.Read → FaultsRose (S.state src.old) (S.state src.new) }
     ensures count { FaultsOnlyRise (S.state src.old) (S.state src.new) }
@@ -184,7 +184,7 @@ fn read_item<S: Source>(
     }
 }
 
-// The site, where its last line, of this number, may stand.
+/// The site, where its last line, of this number, may stand.
 fn finish(builder: SiteBuilder, place: u64) -> Result<Site, SiteFault>
     ensures good { OnOk result (IsGood builder TheEnd) }
     ensures site { IfOk result (λ site. site ≡ builder.site) }

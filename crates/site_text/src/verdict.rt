@@ -1,10 +1,9 @@
 //! The verdict line of a document, written.
 
 ghost use Rattle.cable_definitions.specs.Text.{claim_line};
-ghost use Rattle.cable_text.specs.Stream.{Writes};
+ghost use Rattle.cable_definitions.specs.Stream.{Writes};
 ghost use Rattle.site_text.specs.Verdict.{NamesPoint};
 
-use crate::write::name_of;
 use cable_definitions::claim::Claim;
 use cable_text::{Failed, Field, Sink, count_of, push_line};
 use site_model::Site;
@@ -23,7 +22,7 @@ pub fn write_verdict<O: Sink>(site: &Site, claim: Claim, out: &mut O) -> Result<
         Claim::Optimal(cost) => push_line(b"optimal", &[count_of(cost)], out),
         Claim::Gap { cost, bound } => push_line(b"gap", &[count_of(cost), count_of(bound)], out),
         Claim::Partial { bound, stuck } => {
-            let name = Field::Word(name_of(site.points(), stuck));
+            let name = Field::Word(site.name(stuck));
             let fields = [count_of(bound), Field::Word(b"stuck"), name];
             push_line(b"open", &fields, out)
         }

@@ -7,7 +7,7 @@ ghost use Rattle.site_text.specs.Words.{are_fields};
 
 use cable_text::cut;
 
-// The next word, and what follows it; none where there is none, or an empty one.
+/// The next word, and what follows it; none where there is none, or an empty one.
 fn next_word<'a>(rest: Option<&'a [u8]>) -> Option<(&'a [u8], Option<&'a [u8]>)>
     ensures none { IfNone result ((n : ℕ) → are_fields (suc n) (rest_parts (option_copied rest.entry)) ≡ false) }
     ensures word { IfSome result (λ r.
@@ -23,7 +23,7 @@ fn next_word<'a>(rest: Option<&'a [u8]>) -> Option<(&'a [u8], Option<&'a [u8]>)>
     }
 }
 
-// The one word that is left; none where there is another number of words, or an empty one.
+/// The one word that is left; none where there is another number of words, or an empty one.
 pub fn one_word<'a>(rest: Option<&'a [u8]>) -> Option<&'a [u8]>
     ensures none { IfNone result (are_fields 1 (rest_parts (option_copied rest.entry)) ≡ false) }
     ensures words { IfSome result (λ a. rest_parts (option_copied rest.entry) ≡ a.now ∷ []) }
@@ -35,7 +35,7 @@ pub fn one_word<'a>(rest: Option<&'a [u8]>) -> Option<&'a [u8]>
     if rest.is_some() { None } else { Some(word) }
 }
 
-// The two words that are left; none where there is another number of words, or an empty one.
+/// The two words that are left; none where there is another number of words, or an empty one.
 pub fn two_words<'a>(rest: Option<&'a [u8]>) -> Option<(&'a [u8], &'a [u8])>
     ensures none { IfNone result (are_fields 2 (rest_parts (option_copied rest.entry)) ≡ false) }
     ensures words { IfSome result (λ r. rest_parts (option_copied rest.entry)
@@ -51,7 +51,7 @@ pub fn two_words<'a>(rest: Option<&'a [u8]>) -> Option<(&'a [u8], &'a [u8])>
     Some((a, b))
 }
 
-// The three words that are left; none where there is another number of words, or an empty one.
+/// The three words that are left; none where there is another number of words, or an empty one.
 pub fn three_words<'a>(rest: Option<&'a [u8]>) -> Option<(&'a [u8], &'a [u8], &'a [u8])>
     ensures none { IfNone result (are_fields 3 (rest_parts (option_copied rest.entry)) ≡ false) }
     ensures words { IfSome result (λ r. rest_parts (option_copied rest.entry)
@@ -67,7 +67,7 @@ pub fn three_words<'a>(rest: Option<&'a [u8]>) -> Option<(&'a [u8], &'a [u8], &'
     Some((a, b, c))
 }
 
-// The four words that are left; none where there is another number of words, or an empty one.
+/// The four words that are left; none where there is another number of words, or an empty one.
 pub fn four_words<'a>(rest: Option<&'a [u8]>) -> Option<(&'a [u8], &'a [u8], &'a [u8], &'a [u8])>
     ensures none { IfNone result (are_fields 4 (rest_parts (option_copied rest.entry)) ≡ false) }
     ensures words { IfSome result (λ r. rest_parts (option_copied rest.entry)
@@ -83,7 +83,7 @@ pub fn four_words<'a>(rest: Option<&'a [u8]>) -> Option<(&'a [u8], &'a [u8], &'a
     Some((a, b, c, d))
 }
 
-// The five words that are left; none where there is another number of words, or an empty one.
+/// The five words that are left; none where there is another number of words, or an empty one.
 pub fn five_words<'a>(
     rest: Option<&'a [u8]>,
 ) -> Option<(&'a [u8], &'a [u8], &'a [u8], &'a [u8], &'a [u8])>

@@ -1,11 +1,10 @@
 //! Sites written in line form.
 
-ghost use Rattle.std.specs.Prelude.{◌≡◌, ◌<◌, length, map, slice_get};
+ghost use Rattle.std.specs.Prelude.{◌≡◌, length, map};
 ghost use Rattle.std.specs.List.{concat};
-ghost use Rattle.cable_definitions.specs.Text.{number, site_line, mode_line, type_line, point_line, corner_line, obstacle_lines, pair_line, name_from, site_lines};
-ghost use Rattle.cable_definitions.specs.Site.{IsPair};
+ghost use Rattle.cable_definitions.specs.Text.{number, site_line, mode_line, type_line, point_line, corner_line, obstacle_lines, pair_line, site_lines};
 ghost use Rattle.std.specs.Fmt.{decimal};
-ghost use Rattle.cable_text.specs.Stream.{Writes};
+ghost use Rattle.cable_definitions.specs.Stream.{Writes};
 ghost use Rattle.cable_text.specs.Fields.{field_text};
 
 use cable_text::{Failed, Field, Sink, count_of, push_line};
@@ -29,7 +28,7 @@ pub fn write_site<O: Sink>(site: &Site, out: &mut O) -> Result<(), Failed>
     push_line(b"end", &[Field::Word(b"site")], out)
 }
 
-// Appends `site 1` or `site 2`.
+/// Appends `site 1` or `site 2`.
 fn push_version<O: Sink>(version: Version, out: &mut O) -> Result<(), Failed>
     ensures { Writes result (O.state out.old) (O.state out.new) (site_line version) }
 {
@@ -39,7 +38,7 @@ fn push_version<O: Sink>(version: Version, out: &mut O) -> Result<(), Failed>
     }
 }
 
-// Appends `mode tree` or `mode strings`.
+/// Appends `mode tree` or `mode strings`.
 fn push_mode<O: Sink>(mode: Mode, out: &mut O) -> Result<(), Failed>
     ensures { Writes result (O.state out.old) (O.state out.new) (mode_line mode) }
 {
@@ -49,7 +48,7 @@ fn push_mode<O: Sink>(mode: Mode, out: &mut O) -> Result<(), Failed>
     }
 }
 
-// Appends the lines of the cable types.
+/// Appends the lines of the cable types.
 fn push_types<O: Sink>(version: Version, types: &[CableType], out: &mut O) -> Result<(), Failed>
     ensures { Writes result (O.state out.old) (O.state out.new) (concat (map (type_line version) types.now)) }
 {
@@ -59,7 +58,7 @@ fn push_types<O: Sink>(version: Version, types: &[CableType], out: &mut O) -> Re
     Ok(())
 }
 
-// Appends the line of a cable type.
+/// Appends the line of a cable type.
 fn push_type<O: Sink>(version: Version, cable_type: CableType, out: &mut O) -> Result<(), Failed>
     ensures { Writes result (O.state out.old) (O.state out.new) (type_line version cable_type) }
 {
@@ -75,7 +74,7 @@ fn push_type<O: Sink>(version: Version, cable_type: CableType, out: &mut O) -> R
     }
 }
 
-// Appends the lines of the points.
+/// Appends the lines of the points.
 fn push_points<O: Sink>(points: &[Point], out: &mut O) -> Result<(), Failed>
     ensures { Writes result (O.state out.old) (O.state out.new) (concat (map point_line points.now)) }
 {
@@ -85,7 +84,7 @@ fn push_points<O: Sink>(points: &[Point], out: &mut O) -> Result<(), Failed>
     Ok(())
 }
 
-// Appends the line of a point.
+/// Appends the line of a point.
 fn push_point<O: Sink>(point: &Point, out: &mut O) -> Result<(), Failed>
     ensures { Writes result (O.state out.old) (O.state out.new) (point_line point.now) }
 {
@@ -102,28 +101,28 @@ fn push_point<O: Sink>(point: &Point, out: &mut O) -> Result<(), Failed>
     }
 }
 
-// A number that isn't negative.
+/// A number that isn't negative.
 fn small_count(value: u32) -> Field<'static>
     ensures { field_text result ≡ decimal value }
 {
     count_of(u64::from(value))
 }
 
-// The first coordinate of a place.
+/// The first coordinate of a place.
 fn x_of(place: Place) -> Field<'static>
     ensures { field_text result ≡ number place.x }
 {
     Field::Number(i128::from(place.x))
 }
 
-// The second coordinate of a place.
+/// The second coordinate of a place.
 fn y_of(place: Place) -> Field<'static>
     ensures { field_text result ≡ number place.y }
 {
     Field::Number(i128::from(place.y))
 }
 
-// Appends the lines of the obstacles.
+/// Appends the lines of the obstacles.
 fn push_obstacles<O: Sink>(obstacles: &[Obstacle], out: &mut O) -> Result<(), Failed>
     ensures { Writes result (O.state out.old) (O.state out.new) (concat (map obstacle_lines obstacles.now)) }
 {
@@ -133,7 +132,7 @@ fn push_obstacles<O: Sink>(obstacles: &[Obstacle], out: &mut O) -> Result<(), Fa
     Ok(())
 }
 
-// Appends the line of an obstacle and those of its corners.
+/// Appends the line of an obstacle and those of its corners.
 fn push_obstacle<O: Sink>(obstacle: &Obstacle, out: &mut O) -> Result<(), Failed>
     ensures { Writes result (O.state out.old) (O.state out.new) (obstacle_lines obstacle.now) }
 {
@@ -142,14 +141,14 @@ fn push_obstacle<O: Sink>(obstacle: &Obstacle, out: &mut O) -> Result<(), Failed
     push_corners(corners, out)
 }
 
-// How many corners there are.
+/// How many corners there are.
 fn len_of(corners: &[Place]) -> Field<'static>
     ensures { field_text result ≡ decimal (length corners.now) }
 {
     Field::Number(corners.len() as i128)
 }
 
-// Appends the lines of the corners.
+/// Appends the lines of the corners.
 fn push_corners<O: Sink>(corners: &[Place], out: &mut O) -> Result<(), Failed>
     ensures { Writes result (O.state out.old) (O.state out.new) (concat (map corner_line corners.now)) }
 {
@@ -159,14 +158,14 @@ fn push_corners<O: Sink>(corners: &[Place], out: &mut O) -> Result<(), Failed>
     Ok(())
 }
 
-// Appends the line of a corner.
+/// Appends the line of a corner.
 fn push_corner<O: Sink>(corner: Place, out: &mut O) -> Result<(), Failed>
     ensures { Writes result (O.state out.old) (O.state out.new) (corner_line corner) }
 {
     push_line(b"corner", &[x_of(corner), y_of(corner)], out)
 }
 
-// Appends the lines of the pair rules.
+/// Appends the lines of the pair rules.
 fn push_pairs<O: Sink>(site: &Site, out: &mut O) -> Result<(), Failed>
     ensures { Writes result (O.state out.old) (O.state out.new) (concat (map (pair_line site.now) site.now.pairs)) }
 {
@@ -176,23 +175,14 @@ fn push_pairs<O: Sink>(site: &Site, out: &mut O) -> Result<(), Failed>
     Ok(())
 }
 
-// Appends the line of a pair rule.
+/// Appends the line of a pair rule.
 fn push_pair<O: Sink>(site: &Site, pair: Pair, out: &mut O) -> Result<(), Failed>
-    requires { IsPair site.now.points pair }
     ensures { Writes result (O.state out.old) (O.state out.new) (pair_line site.now pair) }
 {
-    let a = Field::Word(name_of(site.points(), pair.a));
-    let b = Field::Word(name_of(site.points(), pair.b));
+    let a = Field::Word(site.name(pair.a));
+    let b = Field::Word(site.name(pair.b));
     match pair.rule {
         PairRule::Charge(amount) => { push_line(b"charge", &[a, b, count_of(amount)], out) }
         PairRule::Closed => push_line(b"closed", &[a, b], out),
     }
-}
-
-/// The name of a point, by its number.
-pub fn name_of(points: &[Point], number: u32) -> &[u8]
-    requires { number < length points.now }
-    ensures { result.now ≡ name_from (slice_get points.now number) }
-{
-    points[number as usize].name.as_slice()
 }

@@ -12,7 +12,8 @@ use Rattle.number_laws.proofs.Keys.{slice_get-map_source}
 use Rattle.layout_laws.proofs.Alike.{load-same}
 use Rattle.layout_laws.proofs.Arcs.{SameEnds-from_arcs}
 use Rattle.layout_laws.proofs.Typing.{all-at, matched}
-use Rattle.layout_meaning.specs.Typed.{IsCheapestOrZero, JoinPoints}
+use Rattle.layout_laws.specs.Cheapest.{IsCheapestOrZero}
+use Rattle.layout_meaning.specs.Typed.{JoinPoints}
 use Rattle.start_layout.specs.Moves.{re_ended, with_end}
 
 -- an element more

@@ -18,7 +18,12 @@ use Rattle.layout_laws.proofs.Arcs.{SameEnds-from_arcs, with_grades_of, with_gra
 pub use Rattle.layout_laws.proofs.Legal.{broken_not_legal as not_legal}
 use Rattle.layout_laws.proofs.Typing.{all-at, some_cheap_typed}
 use Rattle.layout_laws.proofs.Typed.{IsLegal-cheap, cost-legal, cheap_typed-same}
-use Rattle.start_layout.specs.Moves.{re_ended, with_end, MakesLegal, MakesNoneBelow, AllMakeNoneBelow, IsMove, IsMoveOrNone, IsBestMove}
+use Rattle.start_layout.specs.Moves.{re_ended, with_end, MakesLegal, MakesNoneBelow, AllMakeNoneBelow, IsMove, IsBestMove}
+
+-- an arc whose end makes a legal layout of this cost, which is less than that of the cables, or none, where the cost is that of the cables
+abbrev pub IsMoveOrNone : Site → List Cable → ℕ → Option Arc → Type 0
+IsMoveOrNone s cables least None = least ≡ cost s cables
+IsMoveOrNone s cables least (Some a) = IsMove s cables least a
 
 -- ---- the cables out of points where those out of p end in q
 -- the first of them

@@ -17,7 +17,16 @@ use Rattle.layout_laws.proofs.Walking.{Starts-from_out}
 use Rattle.layout_laws.proofs.Typing.{all-at}
 use Rattle.layout_laws.proofs.Nearest.{out-from_Starts}
 use Rattle.layout_laws.proofs.Straightest.{StartsDiffer-ascending, straight-at}
-use Rattle.start_layout.specs.Straight.{IsWayIn, Beats, IsLeastTo, IsBestTo, IsLeastWayBelow, IsBestWayBelow, AreStraightBelow}
+use Rattle.start_layout.specs.Straight.{IsWayIn, Beats, IsLeastTo, IsBestTo, IsLeastWayBelow, IsBestWayBelow}
+
+-- straight cables out of the turbines below n, in order of start
+pub record AreStraightBelow (s : Site) (n : ℕ) (cables : List Cable) : Type 0 where
+  pub count : length cables ≤ n
+  pub ascending : (i j : ℕ) (c d : Cable) → IsCable cables i c → IsCable cables j d → i < j → c.from < d.from
+  pub below : (i : ℕ) (c : Cable) → IsCable cables i c → c.from < n
+  pub turbine : (i : ℕ) (c : Cable) → IsCable cables i c → IsTrue (is_turbine (kind_of s c.from))
+  pub straight : (i : ℕ) (c : Cable) → IsCable cables i c → IsStraightCable s c
+  pub joined : (p : ℕ) → p < n → IsTrue (is_turbine (kind_of s p)) → (i : ℕ) × (c : Cable) × (IsCable cables i c) × (c.from ≡ p)
 
 -- a listed arc is a candidate
 pub candidate_listed : (s : Site) (arcs : List Arc) (p q n : ℕ) → AreArcs s arcs → IsNumberOf arcs p q n → IsCandidate s p q

@@ -1,5 +1,5 @@
 -- One cable ended elsewhere, and what that makes.
-use Rattle.std.specs.Prelude.{◌≡◌, ℕ, ◌<◌, ◌≤◌, ◌==◌, cond, List, length, map, slice_get, Option, None, Some}
+use Rattle.std.specs.Prelude.{◌≡◌, ℕ, ◌<◌, ◌≤◌, ◌==◌, cond, List, length, map, slice_get, Some}
 use Rattle.cable_definitions.specs.declared.cable.Arc.{Arc}
 use Rattle.cable_definitions.specs.declared.cable.Cable.{Cable}
 use Rattle.cable_definitions.specs.Site.{Site}
@@ -31,11 +31,6 @@ pub record IsMove (s : Site) (cables : List Cable) (least : ℕ) (a : Arc) : Typ
   pub within : a.to < length s.points
   pub legal : MakesLegal s cables a least
   pub cheaper : least < cost s cables
-
--- such an arc, or none, where the cost is that of the cables
-abbrev pub IsMoveOrNone : Site → List Cable → ℕ → Option Arc → Type 0
-IsMoveOrNone s cables least None = least ≡ cost s cables
-IsMoveOrNone s cables least (Some a) = IsMove s cables least a
 
 -- such an arc, where no arc makes a cheaper one
 pub record IsBestMove (s : Site) (arcs : List Arc) (cables : List Cable) (a : Arc) : Type 0 where

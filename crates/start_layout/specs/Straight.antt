@@ -1,10 +1,8 @@
 -- Straight cables, substation by substation, and the straight layout, turbine by turbine.
-use Rattle.std.specs.Prelude.{◌≡◌, ℕ, ◌<◌, ◌≤◌, ◌⊎◌, List, length, IsTrue, Option, None, Some}
+use Rattle.std.specs.Prelude.{◌≡◌, ℕ, ◌<◌, ◌≤◌, ◌⊎◌, IsTrue, Option, None, Some}
 use Rattle.cable_definitions.specs.declared.cable.Cable.{Cable}
 use Rattle.cable_definitions.specs.Site.{Site}
-use Rattle.cable_definitions.specs.Arcs.{IsCandidate, kind_of, is_turbine, is_substation, power_of, cost_of, Bears}
-use Rattle.cable_definitions.specs.Layout.{IsCable}
-use Rattle.cable_definitions.specs.Part.{IsStraightCable}
+use Rattle.cable_definitions.specs.Arcs.{IsCandidate, kind_of, is_substation, power_of, cost_of, Bears}
 
 -- a candidate arc to a substation, and a type that bears the start's own power
 pub record IsWayIn (s : Site) (p q grade : ℕ) : Type 0 where
@@ -42,12 +40,3 @@ pub record IsLeastWayBelow (s : Site) (p n : ℕ) (c : Cable) (price : ℕ) : Ty
 abbrev pub IsBestWayBelow : Site → ℕ → ℕ → Option (Cable × ℕ) → Type 0
 IsBestWayBelow s p n None = (q grade : ℕ) → q < n → ¬ (IsWayIn s p q grade)
 IsBestWayBelow s p n (Some (c, price)) = IsLeastWayBelow s p n c price
-
--- straight cables out of the turbines below n, in order of start
-pub record AreStraightBelow (s : Site) (n : ℕ) (cables : List Cable) : Type 0 where
-  pub count : length cables ≤ n
-  pub ascending : (i j : ℕ) (c d : Cable) → IsCable cables i c → IsCable cables j d → i < j → c.from < d.from
-  pub below : (i : ℕ) (c : Cable) → IsCable cables i c → c.from < n
-  pub turbine : (i : ℕ) (c : Cable) → IsCable cables i c → IsTrue (is_turbine (kind_of s c.from))
-  pub straight : (i : ℕ) (c : Cable) → IsCable cables i c → IsStraightCable s c
-  pub joined : (p : ℕ) → p < n → IsTrue (is_turbine (kind_of s p)) → (i : ℕ) × (c : Cable) × (IsCable cables i c) × (c.from ≡ p)

@@ -11,20 +11,20 @@ use layout_meaning::{Outgoing, PartialLayout};
 use site_model::Site;
 use std::alloc::{AllocError, Global};
 
-/// An arc out of a turbine, its cost, and what it costs more than a cable to the nearest substation, each at the turbine's own power; and whether
-/// the arc was tried, which is done once.
+/// An arc out of a turbine, its cost, and the saving of Esau and Williams negated: what it costs more than a cable to the nearest substation, each
+/// at the turbine's own power; and whether the arc was tried, which is done once.
 #[derive(Clone, Copy)]
 pub(crate) struct Choice {
     from: u32,
     to: u32,
     cost: u64,
-    extra: i128,
+    negative_saving: i128,
     tried: bool,
 }
 
 /// The cost of a cable from a point to the nearest substation, at the point's own power, whether or not it may run there; the greatest cost
 /// where there is no substation, or no type that bears the power.
-fn way_in_cost(site: &Site, from: u32) -> u64
+fn substation_cost(site: &Site, from: u32) -> u64
     requires from { from < length site.now.points }
 {
     let power = site.power(from);
@@ -50,7 +50,7 @@ fn list_choices(
     requires turbine { turbine < length site.now.points }
 {
     let power = site.power(turbine);
-    let way_in = way_in_cost(site, turbine);
+    let direct = substation_cost(site, turbine);
     let count = site.points().len();
     let (first, past) = arcs.out_of(turbine);
     for number in first..past {
@@ -61,7 +61,7 @@ fn list_choices(
                     from: turbine,
                     to,
                     cost,
-                    extra: cost as i128 - way_in as i128,
+                    negative_saving: cost as i128 - direct as i128,
                     tried: false,
                 })?;
             }
@@ -84,7 +84,7 @@ pub(crate) fn all_choices(
             list_choices(&mut choices, site, arcs, turbine)?;
         }
     }
-    choices.sort_by_key(|choice| (choice.extra, choice.cost))?;
+    choices.sort_by_key(|choice| (choice.negative_saving, choice.cost))?;
     Ok(choices)
 }
 

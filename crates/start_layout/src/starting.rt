@@ -32,7 +32,7 @@ pub(crate) struct Incumbent {
 }
 
 /// A layout to begin with: the cheaper of the straight layout and the one that a search met, where one of them is legal. Else it is grown turbine by
-/// turbine by the greatest saving against the cheapest cable to a substation, after Esau and Williams. Where that isn't legal either it is the part
+/// turbine by the greatest saving against the cheapest cable to a substation, after Esau and Williams (1966). Where that isn't legal either it is the part
 /// that was grown, with a turbine that is blocked there; that says nothing of other layouts. An error comes for want of memory alone.
 pub fn greedy(alloc: Global, site: &Site, arcs: &Arcs) -> Result<Start, AllocError>
     requires { AreArcs site.now arcs.now }

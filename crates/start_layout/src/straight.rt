@@ -4,7 +4,7 @@ ghost use Rattle.std.specs.Prelude.{◌≡◌, ℕ, ◌+◌, ◌<◌, ◌↔◌,
 ghost use Rattle.cable_definitions.specs.declared.cable.Cable.{Cable as ACable};
 ghost use Rattle.cable_definitions.specs.Arcs.{AreArcs, IsCandidate};
 ghost use Rattle.cable_definitions.specs.Part.{IsStraight, IsStraightCable};
-ghost use Rattle.start_layout.specs.Straight.{IsWayIn, IsBestTo, IsBestWayBelow, AreStraightBelow};
+ghost use Rattle.start_layout.specs.Straight.{IsWayIn, IsBestTo, IsBestWayBelow};
 
 use candidate_cables::Arcs;
 use layout_meaning::{Cable, Layout};

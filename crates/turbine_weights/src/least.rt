@@ -8,8 +8,8 @@ ghost use Rattle.site_model.specs.Best.{most_cost};
 ghost use Rattle.turbine_weights.specs.Turbines.{IsLeft, IsLeastLeft};
 ghost use Rattle.turbine_weights.specs.Least.{IsOwnCost, lesser_cost as lesser_of};
 
-use bound_value::{Decisions, Mark};
 use candidate_cables::{Arc, Arcs};
+use node_works::{Decisions, Mark};
 use site_model::Site;
 
 /// The least cost of an arc under the types that bear the power of its start, with that power as load. None where it is marked unused.

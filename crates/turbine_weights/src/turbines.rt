@@ -9,10 +9,10 @@ ghost use Rattle.turbine_weights.specs.Turbines.{out_row, AreTurbineWeights};
 ghost use Rattle.turbine_weights.specs.Weighing.{AreWeighed};
 
 use crate::least::least_due;
-use bound_value::{Decisions, Weights};
 use cable_definitions::row::RowKind;
 use cable_rows::RowPool;
 use candidate_cables::Arcs;
+use node_works::{Decisions, Weights};
 use site_model::Site;
 
 /// How many units of a weight make a cost unit.

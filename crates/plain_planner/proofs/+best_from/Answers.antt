@@ -1,7 +1,7 @@
 use Rattle.std.proofs.Common.{◌+◌, List, length, get_or, arith, sym, ◌∙◌, ap, subst}
 use Rattle.cable_definitions.specs.declared.cable.Cable.{Cable}
-use Rattle.plain_planner.specs.Choices.{cable_to, Completes, CompletesBelow, IsBestTried}
-use Rattle.plain_planner.proofs.Best.{one_more_end, all_ends, popped, pushed_on, kept_on}
+use Rattle.plain_planner.specs.Choices.{cable_to, Completes, IsBestTried}
+use Rattle.plain_planner.proofs.Best.{one_more_end, all_ends, popped, pushed_on, kept_on, CompletesBelow}
 use Rattle.plain_planner.proofs.+best_from.Goals as goal
 
 pub loop-to-preserved : goal.loop-to-preserved

@@ -1,5 +1,6 @@
 use Rattle.std.proofs.Common.{◌≡◌, ◌-◌, length}
-use Rattle.plain_planner.specs.Choices.{CompletesBelow, IsBestTried}
+use Rattle.plain_planner.specs.Choices.{IsBestTried}
+use Rattle.plain_planner.proofs.Best.{CompletesBelow}
 use Rattle.plain_planner.proofs.+best_from.Given as goal
 
 abbrev pub decreases-best_from : goal.decreases-best_from

@@ -2,7 +2,8 @@ use Rattle.std.proofs.Common.{ℕ, ℤ, pos, ap, length, arith, get_or, ◌<◌,
 use Rattle.std.specs.Int.{w128}
 use Rattle.std.proofs.lemmas.Int.{to_z-of_z}
 use Rattle.bound_value.specs.Lawful.{IsLawfulWeight}
-use Rattle.bound_value.proofs.LawfulWeights.{weight_read, lawful_more, not_ascending}
+use Rattle.cable_rows.proofs.Listing.{weight_read}
+use Rattle.bound_value.proofs.LawfulWeights.{lawful_more, not_ascending}
 use Rattle.bound_value.proofs.lawfulness.lawful.Goals as goal
 
 pub returns-then-row-next : goal.returns-then-row-next

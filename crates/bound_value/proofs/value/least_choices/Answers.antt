@@ -1,11 +1,12 @@
 use Rattle.std.proofs.Common.{ℕ, ℤ, ◌+◌, ◌*◌, ◌^◌, ◌≤◌, List, unsigned_abs, to_z, take, refl, sym, subst, arith}
 use Rattle.std.specs.Int.{w128}
-use Rattle.cable_definitions.specs.Choice.{AtMost, IsSumOfExtremes, reduced_cost}
+use Rattle.cable_definitions.specs.Choice.{AtMost, IsExtreme, IsSumOfExtremes, reduced_cost}
 use Rattle.proof_laws.proofs.Extremes.{sum_more}
-use Rattle.bound_value.specs.Sums.{AreNear}
-use Rattle.bound_value.proofs.Weighing.{added}
-use Rattle.bound_value.proofs.Counting.{sets_lawful, least_left, read_small}
-use Rattle.bound_value.proofs.NearSets.{near_lawful, near_summed}
+use Rattle.arc_choices.specs.Least.{left_over}
+use Rattle.cable_rows.specs.Sums.{AreNear}
+use Rattle.cable_rows.proofs.Weighing.{added}
+use Rattle.cable_rows.proofs.Counting.{sets_lawful, counts_read, read_small}
+use Rattle.cable_rows.proofs.NearSets.{near_lawful, near_summed}
 use Rattle.bound_value.proofs.value.least_choices.Goals as goal
 
 pub find_near-requires : goal.find_near-requires
@@ -47,7 +48,7 @@ loop-number-preserved c =
     let summed = near_summed arcs rows ws c.weights_on_sets-sets.result c.turn_to.new.near c.as_slice.result.now c.point_sums-sums.result i arc c.requires.lawful sums.few sums.sums c.weights_on_sets-sets.ensures c.turn_to.ensures c.as_slice.ensures.value c.get-from.ensures in
     let total = to_z w128 c.loop-number.sum-bits in
     let least = c.least_choice-sum.result in
-    let extreme = least_left s rows ws i arc c.mark-mark.result c.counts-counts.result least (c.counts-counts.ensures ws arc c.get-from.ensures summed) (c.least_choice-sum.ensures.least arc c.get-from.ensures) in
+    let extreme = counts_read (λ u v. IsExtreme AtMost s arc c.mark-mark.result (left_over s arc u v) least) rows ws i arc c.counts-counts.result (c.counts-counts.ensures ws arc c.get-from.ensures summed) (c.least_choice-sum.ensures.least arc c.get-from.ensures) in
     let sum = added total least total (10 ^ 30 * i) (10 ^ 30) refl c.loop-number.invariant.small c.least_choice-sum.ensures.small (omega arith) in
     let near = sum.2 in
     record {

@@ -1,6 +1,6 @@
 use Rattle.std.proofs.Common.{◌≤◌, ◌*◌, ◌^◌, unsigned_abs, take}
 use Rattle.cable_definitions.specs.Choice.{AtMost, IsSumOfExtremes, reduced_cost}
-use Rattle.bound_value.specs.Sums.{AreNear, sets_of}
+use Rattle.cable_rows.specs.Sums.{AreNear, sets_of}
 use Rattle.bound_value.proofs.value.least_choices.Given as goal
 
 abbrev pub invariant-loop-number : goal.invariant-loop-number

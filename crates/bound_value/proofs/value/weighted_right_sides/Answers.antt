@@ -1,7 +1,7 @@
 use Rattle.std.proofs.Common.{◌≤◌, ℤ, pos, get_or, unsigned_abs, to_z, refl, subst, arith}
 use Rattle.std.specs.Int.{w128}
 use Rattle.cable_definitions.specs.Row.{Row, right}
-use Rattle.bound_value.proofs.Weighing.{next_weight, next_added}
+use Rattle.cable_rows.proofs.Weighing.{next_weight, next_added}
 use Rattle.bound_value.proofs.value.weighted_right_sides.Goals as goal
 
 pub loop-weight-preserved : goal.loop-weight-preserved

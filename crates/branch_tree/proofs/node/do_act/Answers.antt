@@ -22,14 +22,14 @@ after_work xs ys v old status n act bound q h e s f =
 
 pub returns-in-Split-clause-nodes : goal.returns-in-Split-clause-nodes
 returns-in-Split-clause-nodes c = λ n f.
-    let r = c.kept_node-old.result in
+    let r = c.stored_node-old.result in
     let set = slice_set c.args.nodes.now.items (c.args.node - 1) (after r c.args.bound c.status_after.result) in
     ap (map as_node) (c.push_reserved-in-Split.ensures.items ∙ ap (λ (xs : List TreeNode). xs ++ c.child-in-Split.result ∷ []) c.push_reserved.ensures.items)
     ∙ nodes_after-split set (map as_node c.args.nodes.now.items) c.args.node n c.args.act c.in-Split.arc c.args.bound c.child.result c.child-in-Split.result c.in-Split.is
-    (after_work c.args.nodes.now.items c.as_slice.result.now c.args.node r c.status_after.result n c.args.act c.args.bound c.as_slice.ensures.value c.requires.made c.kept_node-old.ensures c.status_after.ensures f)
+    (after_work c.args.nodes.now.items c.as_slice.result.now c.args.node r c.status_after.result n c.args.act c.args.bound c.as_slice.ensures.value c.requires.made c.stored_node-old.ensures c.status_after.ensures f)
     c.child.ensures c.child-in-Split.ensures
 
 pub returns-in_default-clause-nodes : goal.returns-in_default-clause-nodes
 returns-in_default-clause-nodes c = λ n f.
-    after_work c.args.nodes.now.items c.as_slice.result.now c.args.node c.kept_node-old.result c.status_after.result n c.args.act c.args.bound c.as_slice.ensures.value c.requires.made c.kept_node-old.ensures c.status_after.ensures f
+    after_work c.args.nodes.now.items c.as_slice.result.now c.args.node c.stored_node-old.result c.status_after.result n c.args.act c.args.bound c.as_slice.ensures.value c.requires.made c.stored_node-old.ensures c.status_after.ensures f
     ∙ nodes_after-no_split (map as_node c.args.nodes.now.items) c.args.node n c.args.act c.args.bound c.in_default.not-Split

@@ -13,24 +13,24 @@ loop-at-init c = record {
 
 pub mark_if_free-requires : goal.mark_if_free-requires
 mark_if_free-requires c =
-    let r = (c.requires.placed (c.loop-at.at - 1) (as_node c.kept_node-here.result) c.kept_node-here.ensures).within (omega arith) in
+    let r = (c.requires.placed (c.loop-at.at - 1) (as_node c.stored_node-here.result) c.stored_node-here.ensures).within (omega arith) in
     omega (arith, r)
 
 pub loop-at-preserved : goal.loop-at-preserved
 loop-at-preserved c =
-    let before = (c.requires.placed (c.loop-at.at - 1) (as_node c.kept_node-here.result) c.kept_node-here.ensures).parent_before in
+    let before = (c.requires.placed (c.loop-at.at - 1) (as_node c.stored_node-here.result) c.stored_node-here.ensures).parent_before in
     record {
       within = omega (arith, before);
       count = omega arith;
       marks = λ a l.
-          marked_step (length c.args.into.now) (map as_node c.args.nodes.now) c.requires.placed c.args.node c.loop-at.at c.loop-at.into c.mark_if_free.new.into a (as_node c.kept_node-here.result)
-          c.loop-at-test.true c.kept_node-here.ensures c.mark_if_free.ensures.here c.mark_if_free.ensures.elsewhere
+          marked_step (length c.args.into.now) (map as_node c.args.nodes.now) c.requires.placed c.args.node c.loop-at.at c.loop-at.into c.mark_if_free.new.into a (as_node c.stored_node-here.result)
+          c.loop-at-test.true c.stored_node-here.ensures c.mark_if_free.ensures.here c.mark_if_free.ensures.elsewhere
           (c.loop-at.invariant.marks a (omega (arith, l, c.mark_if_free.ensures.count)));
     }
 
 pub loop-at-smaller : goal.loop-at-smaller
 loop-at-smaller c =
-    let before = (c.requires.placed (c.loop-at.at - 1) (as_node c.kept_node-here.result) c.kept_node-here.ensures).parent_before in
+    let before = (c.requires.placed (c.loop-at.at - 1) (as_node c.stored_node-here.result) c.stored_node-here.ensures).parent_before in
     omega (arith, before)
 
 pub returns : goal.returns

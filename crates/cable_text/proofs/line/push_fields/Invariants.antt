@@ -1,7 +1,7 @@
 use Rattle.std.proofs.Common.{Ok, take, map}
 use Rattle.std.specs.List.{concat}
 use Rattle.cable_text.specs.declared.stream.Failed.{Failed}
-use Rattle.cable_text.specs.Stream.{Writes}
+use Rattle.cable_definitions.specs.Stream.{Writes}
 use Rattle.cable_text.specs.Fields.{spaced}
 use Rattle.cable_text.proofs.line.push_fields.Given as goal
 

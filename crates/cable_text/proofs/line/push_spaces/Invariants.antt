@@ -1,6 +1,6 @@
 use Rattle.std.proofs.Common.{Ok, replicate}
 use Rattle.cable_text.specs.declared.stream.Failed.{Failed}
-use Rattle.cable_text.specs.Stream.{Writes}
+use Rattle.cable_definitions.specs.Stream.{Writes}
 use Rattle.cable_text.proofs.line.push_spaces.Given as goal
 
 abbrev pub invariant-loop-place : goal.invariant-loop-place

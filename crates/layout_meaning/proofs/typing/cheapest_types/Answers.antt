@@ -2,9 +2,9 @@ use Rattle.std.proofs.Common.{◌+◌, ℕ, length, take, get_or, arith, sym, ap
 use Rattle.std.proofs.lemmas.List.{length_push}
 use Rattle.cable_definitions.specs.declared.cable.Cable.{Cable}
 use Rattle.cable_definitions.specs.Site.{Site}
-use Rattle.layout_meaning.specs.Typed.{AreTyped, IsCheapestOrZero}
+use Rattle.layout_laws.specs.Cheapest.{IsCheapestOrZero}
 use Rattle.layout_meaning.proofs.Flowing.{cable_there}
-use Rattle.layout_meaning.proofs.Cheapest.{typed_more, cheap_typed}
+use Rattle.layout_meaning.proofs.Cheapest.{typed_more, cheap_typed, AreTyped}
 use Rattle.layout_meaning.proofs.typing.cheapest_types.Goals as goal
 
 -- what stands past the end of a list of cables

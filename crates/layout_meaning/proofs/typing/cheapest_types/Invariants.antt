@@ -1,5 +1,5 @@
 use Rattle.std.proofs.Common.{◌≡◌, length, take}
-use Rattle.layout_meaning.specs.Typed.{AreTyped}
+use Rattle.layout_meaning.proofs.Cheapest.{AreTyped}
 use Rattle.layout_meaning.proofs.typing.cheapest_types.Given as goal
 
 abbrev pub invariant-loop-cable : goal.invariant-loop-cable

@@ -1,6 +1,6 @@
 use Rattle.std.specs.Prelude.{length}
 use Rattle.line_words.specs.Words.{held}
-use Rattle.line_words.specs.Members.{AreSpelledSoFar}
+use Rattle.line_words.proofs.Spelled.{AreSpelledSoFar}
 use Rattle.line_words.proofs.members.members_in.Given as goal
 
 abbrev pub invariant-loop-word : goal.invariant-loop-word

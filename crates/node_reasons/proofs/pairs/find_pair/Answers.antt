@@ -3,15 +3,15 @@ use Rattle.std.proofs.lemmas.Bool.{cases_lt}
 use Rattle.cable_definitions.specs.Tree.{IsUsedPair}
 use Rattle.node_reasons.specs.Node.{NodeParts}
 use Rattle.node_reasons.specs.Reasons.{AreIncompatibleAt}
-use Rattle.node_reasons.proofs.UsedPairs.{twins_pair, no_pair, number_within}
+use Rattle.node_reasons.proofs.UsedPairs.{same_start_pair, no_pair, number_within}
 use Rattle.node_reasons.proofs.pairs.find_pair.Goals as goal
 
 pub returns-in-Some-clause-pair : goal.returns-in-Some-clause-pair
 returns-in-Some-clause-pair c =
     let x = c.node.inside in
-    let twins = c.in-Some.twins in
-    subst (λ (n : NodeParts). (twins.0 ≢ twins.1) × IsUsedPair n.site n.arcs n.marks twins.0 twins.1) c.node.view_is
-    (twins_pair x.site.now x.arcs.now x.decisions.now twins.0 twins.1 c.node.invariant.are_arcs (c.node.invariant.gathered.twins twins.0 twins.1 (sym c.in-Some.ensures)))
+    let pair = c.in-Some.pair in
+    subst (λ (n : NodeParts). (pair.0 ≢ pair.1) × IsUsedPair n.site n.arcs n.marks pair.0 pair.1) c.node.view_is
+    (same_start_pair x.site.now x.arcs.now x.decisions.now pair.0 pair.1 c.node.invariant.are_arcs (c.node.invariant.gathered.same_start pair.0 pair.1 (sym c.in-Some.ensures)))
 
 pub incompatible_with-requires-clause-within : goal.incompatible_with-requires-clause-within
 incompatible_with-requires-clause-within c =

@@ -2,7 +2,7 @@ use Rattle.std.proofs.Common.{Ok, take, map}
 use Rattle.std.specs.List.{concat}
 use Rattle.cable_definitions.specs.Report.{report_cable}
 use Rattle.cable_text.specs.declared.stream.Failed.{Failed}
-use Rattle.cable_text.specs.Stream.{Writes}
+use Rattle.cable_definitions.specs.Stream.{Writes}
 use Rattle.plan_report.proofs.write.push_cables.Given as goal
 
 abbrev pub invariant-loop-cable : goal.invariant-loop-cable

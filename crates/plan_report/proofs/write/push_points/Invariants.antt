@@ -3,7 +3,7 @@ use Rattle.std.specs.List.{concat, enumerate_from}
 use Rattle.cable_definitions.specs.declared.site.Point.{Point}
 use Rattle.cable_definitions.specs.Report.{report_point}
 use Rattle.cable_text.specs.declared.stream.Failed.{Failed}
-use Rattle.cable_text.specs.Stream.{Writes}
+use Rattle.cable_definitions.specs.Stream.{Writes}
 use Rattle.plan_report.proofs.write.push_points.Given as goal
 
 abbrev pub invariant-loop-p : goal.invariant-loop-p

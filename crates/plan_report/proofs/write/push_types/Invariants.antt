@@ -3,7 +3,7 @@ use Rattle.std.specs.List.{concat, enumerate_from}
 use Rattle.cable_definitions.specs.declared.site.CableType.{CableType}
 use Rattle.cable_definitions.specs.Report.{report_type}
 use Rattle.cable_text.specs.declared.stream.Failed.{Failed}
-use Rattle.cable_text.specs.Stream.{Writes}
+use Rattle.cable_definitions.specs.Stream.{Writes}
 use Rattle.plan_report.proofs.write.push_types.Given as goal
 
 abbrev pub invariant-loop-grade : goal.invariant-loop-grade

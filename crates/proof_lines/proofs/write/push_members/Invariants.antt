@@ -1,7 +1,7 @@
 use Rattle.std.proofs.Common.{Ok, take, map}
 use Rattle.std.specs.List.{concat}
 use Rattle.cable_text.specs.declared.stream.Failed.{Failed}
-use Rattle.cable_text.specs.Stream.{Writes}
+use Rattle.cable_definitions.specs.Stream.{Writes}
 use Rattle.proof_lines.specs.Written.{spaced_number}
 use Rattle.proof_lines.proofs.write.push_members.Given as goal
 

@@ -22,6 +22,6 @@ cables-preserved g c =
       are_read =
           one_read c.args.site.now c.args.ordered c.args.count c.cables._done (ahead c.args.lines.now (g.S.Source.state c.args.src.now)) (ahead c.cables.lines (g.S.Source.state c.cables.src)) (ahead c.read_cable-cable.new.lines (g.S.Source.state c.read_cable-cable.new.src)) c.args.lines.now.lines c.cables.lines.lines c.read_cable-cable.new.lines.lines c.cables-in-cables.result.now c.push.new.self c.in-Ok.cable
           c.cables-test.true h more c.in-Ok.ensures.reads c.in-Ok.ensures.text c.in-Ok.ensures.listed c.in-Ok.ensures.in_order c.in-Ok.ensures.line.lines;
-      none_kept = c.in-Ok.ensures.line.kept;
+      no_fault = c.in-Ok.ensures.line.no_fault;
       faults = omega (arith, c.cables.invariant.faults, c.read_cable-cable.ensures.line.count);
     }

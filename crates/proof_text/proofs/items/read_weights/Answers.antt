@@ -15,7 +15,7 @@ loop-init g c =
       reads = subst P (sym c.clear.ensures) (no_weights start);
       size = ap length c.clear.ensures;
       lines = omega (arith);
-      none_kept = c.requires.kept;
+      no_fault = c.requires.no_fault;
       faults = omega arith;
     }
 
@@ -40,6 +40,6 @@ loop-preserved g c =
       reads = subst P (sym added) (one_weight_more start here there c.loop.weights (c.in-Ok.row, c.in-Ok.weight) c.loop.invariant.reads read);
       size = ap length added ∙ length-append c.loop.weights ((c.in-Ok.row, c.in-Ok.weight) ∷ []) ∙ omega (arith, c.loop.invariant.size);
       lines = omega (arith, c.in-Ok.ensures.line.lines, c.loop.invariant.lines);
-      none_kept = c.in-Ok.ensures.line.kept;
+      no_fault = c.in-Ok.ensures.line.no_fault;
       faults = omega (arith, c.loop.invariant.faults, c.read_weight.ensures.line.count);
     }

@@ -9,6 +9,6 @@ invariant-loop g l = record {
   reads : ReadsWeights (ahead l.initial.lines (g.S.Source.state l.initial.src)) (ahead l.lines (g.S.Source.state l.src)) l.weights;
   size : length l.weights ≡ l.counter;
   lines : line_number_after l.lines.lines 1 ≡ line_number_after l.initial.lines.lines (l.counter + 1);
-  none_kept : l.lines.kept ≡ None;
+  no_fault : l.lines.fault ≡ None;
   faults : (g.S.Source.state l.initial.src).faults ≤ (g.S.Source.state l.src).faults;
 }

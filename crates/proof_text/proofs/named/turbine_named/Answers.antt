@@ -11,4 +11,4 @@ pub returns-clause-none : goal.returns-clause-none
 returns-clause-none c =
     let h = c.in-Some.ensures.some in
     λ q turbine.
-    no_turbine_named c.args.site.now c.args.name.now c.in-Some.number q c.point_named.ensures.valid.names_differ h.0 h.1 (λ t. false≢true (sym c.if-is_turbine.false ∙ c.is_turbine.ensures.turbine ∙ ap is_turbine c.kind.ensures.kind ∙ t)) turbine
+    no_turbine_named c.args.site.now c.args.name.now c.in-Some.number q c.number_of.ensures.valid.names_differ h.0 h.1 (λ t. false≢true (sym c.if-is_turbine.false ∙ c.is_turbine.ensures.turbine ∙ ap is_turbine c.kind.ensures.kind ∙ t)) turbine

@@ -1,4 +1,4 @@
-use Rattle.std.proofs.Common.{◌≡◌, ◌≤◌, ℕ, ◌∷◌, [], true, arith, sym, ◌∙◌, below_more}
+use Rattle.std.proofs.Common.{◌≡◌, ◌≤◌, ℕ, ◌∷◌, [], true, arith, sym, ap, ◌∙◌, below_more}
 use Rattle.std.proofs.lemmas.Bool.{false≢true}
 use Rattle.cable_definitions.specs.Arcs.{kind_of, is_turbine}
 use Rattle.row_makers.specs.Tried.{missing}
@@ -24,6 +24,6 @@ loop-p-preserved c =
             is_one = before.is_one;
             as_much = before.as_much;
             tried = below_more (λ (p : ℕ). is_turbine (kind_of s p) ≡ true → missing s arcs shares (p ∷ c.args.q ∷ []) ≤ c.loop-p.most.missing) c.loop-p.p
-                before.tried (λ t. absurd (false≢true (sym w.if-is_turbine.false ∙ (c.is_turbine.ensures ∙ t))));
+                before.tried (λ t. absurd (false≢true (sym w.if-is_turbine.false ∙ (c.is_turbine.ensures.turbine ∙ ap is_turbine c.kind.ensures.kind ∙ t))));
           })
     ]

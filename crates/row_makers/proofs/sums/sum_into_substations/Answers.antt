@@ -1,5 +1,6 @@
 use Rattle.std.proofs.Common.{◌<◌, length, get_or, cond, Bool, arith, ap, sym, ◌∙◌}
 use Rattle.std.proofs.lemmas.Option.{slice_get-get_or}
+use Rattle.cable_definitions.specs.Arcs.{is_substation}
 use Rattle.row_makers.specs.Sums.{ends_in_substation}
 use Rattle.row_makers.proofs.Upto.{sum_upto-more, sum_upto-all}
 use Rattle.row_makers.proofs.sums.sum_into_substations.Goals as goal
@@ -16,14 +17,14 @@ loop-a-preserved c =
       | then-is_substation w ↦
           let u = w.get-then-is_substation.result in
           let more = sum_upto-more test c.args.arcs.now shares a arc u c.get.ensures w.get-then-is_substation.ensures.share in
-          let one = ap (λ (b : Bool). cond b u 0) (sym c.is_substation.ensures ∙ w.if-is_substation.true) in
+          let one = ap (λ (b : Bool). cond b u 0) (ap is_substation (sym c.kind.ensures.kind) ∙ sym c.is_substation.ensures.substation ∙ w.if-is_substation.true) in
           record {
             total_is = omega (arith, w.total-is, w.from-total.ensures, more, one, c.loop-a.invariant.total_is);
             small = omega (arith, w.total-is, w.from-total.ensures, w.get-then-is_substation.ensures.most, c.loop-a.invariant.small);
           }
       | else-is_substation w ↦
           let more = sum_upto-more test c.args.arcs.now shares a arc (get_or shares a 0) c.get.ensures (slice_get-get_or shares a 0 inside) in
-          let none = ap (λ (b : Bool). cond b (get_or shares a 0) 0) (sym c.is_substation.ensures ∙ w.if-is_substation.false) in
+          let none = ap (λ (b : Bool). cond b (get_or shares a 0) 0) (ap is_substation (sym c.kind.ensures.kind) ∙ sym c.is_substation.ensures.substation ∙ w.if-is_substation.false) in
           record {
             total_is = omega (arith, w.total-is, more, none, c.loop-a.invariant.total_is);
             small = omega (arith, w.total-is, c.loop-a.invariant.small);

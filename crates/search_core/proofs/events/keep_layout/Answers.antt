@@ -1,7 +1,7 @@
 use Rattle.std.proofs.Common.{[], refl, sym, subst}
 use Rattle.cable_definitions.specs.Core.{Found}
 use Rattle.search_core.proofs.Stepping.{did-nothing, did-keep, finds-pool}
-use Rattle.search_core.specs.Progress.{HasFirstRoom}
+use Rattle.search_progress.specs.Progress.{HasFirstRoom}
 use Rattle.search_core.proofs.FirstWork.{room-finds}
 use Rattle.search_core.proofs.events.keep_layout.Goals as goal
 

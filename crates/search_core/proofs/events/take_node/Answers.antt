@@ -1,7 +1,7 @@
 use Rattle.std.proofs.Common.{[], sym, subst}
 use Rattle.search_core.proofs.Stepping.{did-nothing, did-take, takes-pool}
 use Rattle.cable_definitions.specs.Core.{Take}
-use Rattle.search_core.specs.Progress.{HasFirstRoom}
+use Rattle.search_progress.specs.Progress.{HasFirstRoom}
 use Rattle.search_core.proofs.FirstWork.{room-takes}
 use Rattle.search_core.proofs.events.take_node.Goals as goal
 

@@ -4,7 +4,8 @@ use Rattle.cable_rows.proofs.Wellformed.{few_members}
 use Rattle.search_core.proofs.Lasting.{value-risen}
 use Rattle.search_core.proofs.Listing.{lists-row, lists-well_formed}
 use Rattle.search_core.proofs.RaisedCalls.{made-there, nearly-full, of_some}
-use Rattle.stored_makers.specs.Makers.{IsSoundRow, row_made}
+use Rattle.cable_rows.specs.Made.{row_made}
+use Rattle.stored_makers.specs.Makers.{IsSoundRow}
 use Rattle.search_core.proofs.sharpening.cut_again.Goals as goal
 
 pub returns-in-Err-clause-called : goal.returns-in-Err-clause-called

@@ -2,7 +2,8 @@ use Rattle.std.proofs.Common.{◌∙◌, ap, Ok, None, Some, subst, arith}
 use Rattle.std.proofs.lemmas.Int.{ints}
 use Rattle.search_core.specs.Calls.{IsOneCall}
 use Rattle.search_core.specs.declared.worth.Worth.{Worth}
-use Rattle.search_core.proofs.Listing.{lists-then, lists-well_formed}
+use Rattle.search_progress.proofs.RowsListed.{lists-then}
+use Rattle.search_core.proofs.Listing.{lists-well_formed}
 use Rattle.search_core.proofs.RaisedCalls.{calls-then, called-last}
 use Rattle.search_core.proofs.RaisedChoice.{settled-at, settled-there, settled-kept}
 use Rattle.search_core.proofs.sharpening.sharpen.Goals as goal

@@ -1,5 +1,5 @@
 use Rattle.std.proofs.Common.{◌≡◌, ◌≤ℤ◌}
-use Rattle.search_core.specs.Lists.{Lists}
+use Rattle.search_progress.specs.Lists.{Lists}
 use Rattle.search_core.specs.Calls.{AreCalls}
 use Rattle.search_core.specs.Raised.{IsRaised}
 use Rattle.search_core.proofs.sharpening.sharpen.Given as goal

@@ -1,5 +1,6 @@
 use Rattle.std.proofs.Common.{arith}
-use Rattle.search_core.proofs.Listing.{lists-then, lists-sets, room-few}
+use Rattle.search_progress.proofs.RowsListed.{lists-then}
+use Rattle.search_core.proofs.Listing.{lists-sets, room-few}
 use Rattle.search_core.proofs.working.list_rows_of_node.Goals as goal
 
 pub list_floor_rows-requires-clause-room : goal.list_floor_rows-requires-clause-room

@@ -1,9 +1,10 @@
 use Rattle.std.proofs.Common.{ℕ, ◌∙◌, refl, sym, ap, subst}
 use Rattle.std.specs.Prelude.{nat_abs}
 use Rattle.cable_definitions.specs.InTree.{HasNoBends}
-use Rattle.search_core.specs.Chosen.{IsNodeBound}
-use Rattle.search_core.specs.declared.progress.Progress.{Progress}
-use Rattle.search_core.proofs.Listing.{lists-nothing, lists-then, lists-points, lists-well_formed, lists-length}
+use Rattle.search_progress.specs.Chosen.{IsNodeBound}
+use Rattle.search_progress.specs.declared.progress.Progress.{Progress}
+use Rattle.search_progress.proofs.RowsListed.{lists-then}
+use Rattle.search_core.proofs.Listing.{lists-nothing, lists-points, lists-well_formed, lists-length}
 use Rattle.search_core.proofs.RaisedCalls.{called-from}
 use Rattle.intree_floor.proofs.Holding.{legal-in_tree}
 use Rattle.search_core.proofs.RaisedChoice.{passed-bound}

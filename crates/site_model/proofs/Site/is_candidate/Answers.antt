@@ -20,10 +20,10 @@ returns c =
     let from_is = point_is s c.points.result.now p from c.points.ensures.value c.requires.from c.index-points-from.is in
     let to_is = point_is s c.points-2.result.now q to c.points-2.ensures.value c.requires.to c.index-points-to.is in
     let largest = c.largest_capacity.ensures.largest in
-    let bearable : power_of_kind from.kind ≤ largest_capacity s = omega (arith, largest, c.power_of.ensures, c.if-power_of-largest_capacity.false) in
+    let bearable : power_of_kind from.kind ≤ largest_capacity s = omega (arith, largest, c.power.ensures.power, c.if-power-largest_capacity.false) in
     let passes = subst (λ (points : List Point). PassesNone points p q from.at to.at) c.points-3.ensures.value (c.passes_none.ensures.0 c.if-not-passes_none.false) in
     let clear = subst (λ (obstacles : List (List Place)). IsTrue c.is_clear.result ↔ All (λ corners. IsClear from.at to.at (edges corners)) obstacles) c.obstacles.ensures.value c.is_clear.ensures in
-    candidate_if s p q from to c.is_clear.result from_is to_is (sym c.is_substation.ensures ∙ c.if-is_substation.false) c.if-from-to.false (denied c.is_closed.result c.is_closed.ensures c.if-is_closed.false) bearable passes clear
+    candidate_if s p q from to c.is_clear.result from_is to_is (sym c.is_substation.ensures.substation ∙ c.if-is_substation.false) c.if-from-to.false (denied c.is_closed.result c.is_closed.ensures c.if-is_closed.false) bearable passes clear
 
 pub returns-then-not-passes_none : goal.returns-then-not-passes_none
 returns-then-not-passes_none c =

@@ -12,7 +12,7 @@ returns-in-Ok-End-clause-refused g c = λ code place broken is d.
     let P : SiteCode → ℕ → Bool → Type 0 = λ x y z. Faults d before c.args.lines.now.lines x y z in
     fault_parts P c.broken.result Form code c.number.result place true broken c.broken.ensures is
     (missing_line d c.args.lines.now c.next.new.self (g.S.Source.state c.args.src.now) (g.S.Source.state c.next.new.src) c.number.result c.number.ensures c.next.result (c.in-Ok-End.is ∙ ap Ok c.in-Ok-End.field-0-is)
-    (none_kept c.args.lines.now.kept c.requires c.next.ensures.reads))
+    (none_kept c.args.lines.now.fault c.requires c.next.ensures.reads))
 
 pub returns-in-Err-TooLong-clause-refused : goal.returns-in-Err-TooLong-clause-refused
 returns-in-Err-TooLong-clause-refused g c = λ code place broken is d.
@@ -20,7 +20,7 @@ returns-in-Err-TooLong-clause-refused g c = λ code place broken is d.
     let P : SiteCode → ℕ → Bool → Type 0 = λ x y z. Faults d before c.args.lines.now.lines x y z in
     fault_parts P c.broken-in-Err-TooLong.result TooLong code c.number-in-Err-TooLong.result place true broken c.broken-in-Err-TooLong.ensures is
     (long_line d c.args.lines.now c.next.new.self (g.S.Source.state c.args.src.now) (g.S.Source.state c.next.new.src) c.number-in-Err-TooLong.result c.number-in-Err-TooLong.ensures c.next.result (c.in-Err-TooLong.is ∙ ap Err c.in-Err-TooLong.field-0-is)
-    (none_kept c.args.lines.now.kept c.requires c.next.ensures.reads))
+    (none_kept c.args.lines.now.fault c.requires c.next.ensures.reads))
 
 pub returns-in-Err-NoNewline-clause-refused : goal.returns-in-Err-NoNewline-clause-refused
 returns-in-Err-NoNewline-clause-refused g c = λ code place broken is d.
@@ -28,4 +28,4 @@ returns-in-Err-NoNewline-clause-refused g c = λ code place broken is d.
     let P : SiteCode → ℕ → Bool → Type 0 = λ x y z. Faults d before c.args.lines.now.lines x y z in
     fault_parts P c.broken-in-Err-NoNewline.result Form code c.number-in-Err-NoNewline.result place true broken c.broken-in-Err-NoNewline.ensures is
     (cut_line d c.args.lines.now c.next.new.self (g.S.Source.state c.args.src.now) (g.S.Source.state c.next.new.src) c.number-in-Err-NoNewline.result c.number-in-Err-NoNewline.ensures c.next.result (c.in-Err-NoNewline.is ∙ ap Err c.in-Err-NoNewline.field-0-is)
-    (none_kept c.args.lines.now.kept c.requires c.next.ensures.reads))
+    (none_kept c.args.lines.now.fault c.requires c.next.ensures.reads))

@@ -49,7 +49,7 @@ items-init g c =
       read = subst (λ (d : Draft). HasRead d before after old new) (sym is) second;
       version = sym (ap (λ (d : Draft). d.site.version) is);
       begun = (let s = ap (λ (d : Draft). d.stage) is in omega arith);
-      kept = c.in_ok-mode.ensures.kept;
+      no_fault = c.in_ok-mode.ensures.no_fault;
       count = omega arith;
     }
 
@@ -81,7 +81,7 @@ items-preserved g c =
       read = one_more d e before mid after c.args.lines.now.lines c.items.lines.lines c.read_item.new.lines.lines c.items.invariant.read reads;
       version = c.items.invariant.version ∙ stays.version;
       begun = stays.begun;
-      kept = c.in_ok-read_item.ensures.kept;
+      no_fault = c.in_ok-read_item.ensures.no_fault;
       count = omega arith;
     }
 

@@ -9,7 +9,7 @@ invariant-items g l = record {
   read : HasRead l.builder (ahead l.fn.lines (g.S.Source.state l.fn.src)) (ahead l.lines (g.S.Source.state l.src)) l.fn.lines.lines l.lines.lines;
   version : l.version ≡ l.builder.site.version;
   begun : 2 ≤ l.builder.stage;
-  kept : l.lines.kept ≡ None;
+  no_fault : l.lines.fault ≡ None;
   count : (g.S.Source.state l.fn.src).faults ≤ (g.S.Source.state l.src).faults;
 }
 

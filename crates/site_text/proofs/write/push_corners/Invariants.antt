@@ -1,7 +1,7 @@
 use Rattle.std.proofs.Common.{Ok, take, map}
 use Rattle.std.specs.List.{concat}
 use Rattle.cable_text.specs.declared.stream.Failed.{Failed}
-use Rattle.cable_text.specs.Stream.{Writes}
+use Rattle.cable_definitions.specs.Stream.{Writes}
 use Rattle.cable_definitions.specs.Text.{corner_line}
 use Rattle.site_text.proofs.write.push_corners.Given as goal
 

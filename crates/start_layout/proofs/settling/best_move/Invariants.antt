@@ -1,5 +1,6 @@
-use Rattle.start_layout.specs.Moves.{AllMakeNoneBelow, IsMoveOrNone}
+use Rattle.start_layout.specs.Moves.{AllMakeNoneBelow}
 use Rattle.start_layout.specs.Floors.{IsFloor}
+use Rattle.start_layout.proofs.Moving.{IsMoveOrNone}
 use Rattle.start_layout.proofs.settling.best_move.Given as goal
 
 abbrev pub invariant-loop-number : goal.invariant-loop-number

@@ -1,7 +1,6 @@
 use Rattle.std.proofs.Common.{◌<◌, ◌+◌, ap, length, arith, sym, ◌∙◌, subst}
-use Rattle.start_layout.specs.Straight.{AreStraightBelow}
 use Rattle.start_layout.proofs.Choosing.{pushed_on}
-use Rattle.start_layout.proofs.Straightening.{none_straight, straight_pass, straight_more, straight_best, straight_all}
+use Rattle.start_layout.proofs.Straightening.{none_straight, straight_pass, straight_more, straight_best, straight_all, AreStraightBelow}
 use Rattle.start_layout.proofs.straight.straight_layout.Goals as goal
 use Rattle.start_layout.proofs.straight.straight_layout.Goals.{then-is_turbine+in-Some, else-is_turbine}
 

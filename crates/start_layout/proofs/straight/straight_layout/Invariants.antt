@@ -1,4 +1,4 @@
-use Rattle.start_layout.specs.Straight.{AreStraightBelow}
+use Rattle.start_layout.proofs.Straightening.{AreStraightBelow}
 use Rattle.start_layout.proofs.straight.straight_layout.Given as goal
 
 abbrev pub invariant-loop-turbine : goal.invariant-loop-turbine

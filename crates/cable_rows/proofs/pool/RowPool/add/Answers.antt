@@ -1,5 +1,6 @@
 use Rattle.std.proofs.Common.{◌++◌, ◌∷◌, [], List, refl, arith, ap, ◌∙◌}
 use Rattle.cable_definitions.specs.Row.{Row}
+use Rattle.proof_laws.proofs.RowsHold.{rows-hold}
 use Rattle.cable_rows.proofs.Wellformed.{points_below, few_members, members_ascend, one_member}
 use Rattle.cable_rows.proofs.Pools.{pool_after, rows_after, row_with}
 use Rattle.cable_rows.proofs.pool.RowPool.add.Goals as goal
@@ -26,7 +27,7 @@ pub returns-clause-listed : goal.returns-clause-listed
 returns-clause-listed c =
     let members = c.args.members.now in
     rows_after c.self.inside.rows.items c.push_reserved.new.self.items c.self.inside.members.items c.extend_from_slice.new.self.items members c.args.kind _
-    c.push_reserved.ensures.items c.in-Ok.ensures.items c.self.invariant.kept (record {
+    c.push_reserved.ensures.items c.in-Ok.ensures.items c.self.invariant.stored (record {
       kind_is = refl;
       start = omega arith;
       end = omega arith;
@@ -37,3 +38,6 @@ returns-clause-listed c =
       one = one_member c.args.site.now c.args.arcs.now c.args.kind members c.requires.well_formed;
     })
     ∙ ap (λ (rows : List Row). rows ++ row_with c.args.kind members ∷ []) c.self.view_is
+
+pub returns-clause-holds : goal.returns-clause-holds
+returns-clause-holds c cables legal = rows-hold c.args.site.now c.args.arcs.now cables (row_with c.args.kind c.args.members.now) c.points-points.ensures.valid c.requires.arcs c.requires.well_formed legal

@@ -13,8 +13,8 @@ loop-p-preserved c =
     let same = ap is_substation (kind_there c.args.site.now c.points-in-loop-p.result.now c.loop-p.p c.index-points-p.result c.points-in-loop-p.ensures.value inside) in
     elim c.if-is_substation.branch [
       | then-is_substation w ↦ rw (w.ends-is, w.add.ensures)
-          (substation_added c.args.site.now c.loop-p.ends c.loop-p.p c.loop-p.invariant (omega (arith, inside, c.points.ensures.valid.points_count)) (same ∙ sym c.is_substation.ensures ∙ w.if-is_substation.true))
-      | else-is_substation w ↦ rw w.ends-is (substation_skipped c.args.site.now c.loop-p.ends c.loop-p.p c.loop-p.invariant (same ∙ sym c.is_substation.ensures ∙ w.if-is_substation.false))
+          (substation_added c.args.site.now c.loop-p.ends c.loop-p.p c.loop-p.invariant (omega (arith, inside, c.points.ensures.valid.points_count)) (same ∙ sym c.is_substation.ensures.substation ∙ w.if-is_substation.true))
+      | else-is_substation w ↦ rw w.ends-is (substation_skipped c.args.site.now c.loop-p.ends c.loop-p.p c.loop-p.invariant (same ∙ sym c.is_substation.ensures.substation ∙ w.if-is_substation.false))
     ]
 
 pub returns-clause-substations : goal.returns-clause-substations

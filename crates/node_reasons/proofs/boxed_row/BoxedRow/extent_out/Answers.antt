@@ -1,6 +1,6 @@
 use Rattle.std.proofs.Common.{◌*◌, [], ◌∷◌, slice_get, arith}
-use Rattle.node_reasons.specs.Own.{starts_in, starts_below}
-use Rattle.node_reasons.proofs.OwnSums.{outs_begin, outs_end}
+use Rattle.node_reasons.specs.Own.{starts_in}
+use Rattle.node_reasons.proofs.OwnSums.{outs_begin, outs_end, starts_below}
 use Rattle.node_reasons.proofs.RowSums.{none_extent, alike_extent, out_extent}
 use Rattle.node_reasons.proofs.boxed_row.BoxedRow.extent_out.Goals as goal
 

@@ -1,6 +1,6 @@
 use Rattle.std.proofs.Common.{◌*◌, ◌≤◌, [], ◌∷◌, length}
-use Rattle.node_reasons.specs.Own.{starts_below}
 use Rattle.node_reasons.specs.RowBox.{IsExtentAt}
+use Rattle.node_reasons.proofs.OwnSums.{starts_below}
 use Rattle.node_reasons.proofs.boxed_row.BoxedRow.extent_out.Given as goal
 
 abbrev pub invariant-loop-number : goal.invariant-loop-number

@@ -4,15 +4,15 @@ use Rattle.cable_definitions.specs.Part.{AreCheapTyped}
 use Rattle.cable_definitions.specs.Tree.{used_cables, IsFull}
 use Rattle.layout_meaning.specs.Typed.{JoinPoints}
 use Rattle.node_reasons.specs.Node.{NodeParts}
-use Rattle.node_reasons.proofs.FullLayouts.{gathered_are, used_join, no_twins}
+use Rattle.node_reasons.proofs.FullLayouts.{gathered_are, used_join, no_same_start}
 use Rattle.node_reasons.proofs.node.NodeBox.cheapest_cables.Goals as goal
 
 pub returns-in-Some-clause-none : goal.returns-in-Some-clause-none
 returns-in-Some-clause-none c =
     let x = c.self.inside in
-    let twins = c.in-Some.twins in
+    let pair = c.in-Some.pair in
     subst (λ (n : NodeParts). (cables : List Cable) → ¬ (IsFull n.site n.arcs n.marks cables)) c.self.view_is
-    (no_twins x.site.now x.arcs.now x.decisions.now twins.0 twins.1 c.self.invariant.are_arcs (c.self.invariant.gathered.twins twins.0 twins.1 (sym c.in-Some.ensures)))
+    (no_same_start x.site.now x.arcs.now x.decisions.now pair.0 pair.1 c.self.invariant.are_arcs (c.self.invariant.gathered.same_start pair.0 pair.1 (sym c.in-Some.ensures)))
 
 pub with_cheapest_types-requires-clause-points : goal.with_cheapest_types-requires-clause-points
 with_cheapest_types-requires-clause-points c =

@@ -9,5 +9,5 @@ pub returns-in-Ok-clause-no_cause : goal.returns-in-Ok-clause-no_cause
 returns-in-Ok-clause-no_cause c =
     let x = c.self.inside in
     let work = c.args.work.now in
-    subst (λ (state : CheckerState). (cause : Cause) → ¬ (IsWorkRefused state.site state.arcs state.budget state.kept work.node work.weights work.act cause)) c.self.view_is
+    subst (λ (checker : CheckerState). (cause : Cause) → ¬ (IsWorkRefused checker.site checker.arcs checker.budget checker.state work.node work.weights work.act cause)) c.self.view_is
     (λ cause. work-stands x.site.now x.arcs x.budget (kept_from x.pool x.tree) work.node work.weights work.act (kept_from x.pool c.do_work.new.tree) cause c.in-Ok.ensures.worked)

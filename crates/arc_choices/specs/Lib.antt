@@ -1,0 +1,2 @@
+-- the least that a choice leaves of its cost
+pub mod Least

@@ -1,5 +1,0 @@
-use Rattle.plan_search.proofs.Reducing.{AreReducedBelow}
-use Rattle.plan_search.proofs.making.reduced_shares.Given as goal
-
-abbrev pub invariant-loop-arc : goal.invariant-loop-arc
-invariant-loop-arc l = AreReducedBelow l.shares l.reduced l.arc
