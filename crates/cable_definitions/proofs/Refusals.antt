@@ -80,7 +80,7 @@ unfolding numeral
 line_is text e = record { spelled = record { are_words = are_words; text_is = sym e; members = tt }; allowed = refl }
 
 -- the text of a whole line
-text_of : Piece → List ℕ
+abbrev pub text_of : Piece → List ℕ
 text_of (Whole text) = text
 text_of LongLine = []
 text_of CutLine = []
@@ -88,7 +88,6 @@ text_of NoLine = []
 
 -- no lesser cause is found by reading it
 none_before_limit : (c : Cause) → cause_number c < 5 → IsFoundByReading fork (reader_at AtBudget) (Whole zero_budget) c → ⊥
-unfolding text_of
 none_before_limit Line h f = absurd f
 none_before_limit Form h f = f.2 (BudgetLine (pos 0)) (line_is f.0 (ap text_of f.1))
 none_before_limit Site h f = absurd f

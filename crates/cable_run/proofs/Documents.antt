@@ -33,6 +33,7 @@ use Rattle.document_check.specs.declared.document.Accepted.{Accepted}
 use Rattle.document_check.specs.declared.document.DocumentFault.{DocumentFault}
 use Rattle.document_check.specs.declared.document.DocumentFault.TheVariants.{Refused as RefusedDocument, Read as DocumentRead, Memory as DocumentMemory}
 use Rattle.document_check.specs.Behind.{text_behind, IsAcceptedBehind}
+use Rattle.document_check.specs.Progress.{IfRefused}
 use Rattle.cable_run.specs.declared.fault.Fault.{Fault}
 use Rattle.cable_run.specs.declared.fault.Fault.TheVariants.{Write}
 use Rattle.run_definitions.specs.declared.ending.Ending.TheVariants.{Done}
@@ -126,24 +127,26 @@ refused_behind_site s arcs before middle bytes lines start x valid are gives tol
     }
 
 -- how the fault of a document behind its site ends the reading
-fault_behind_ends : (input : Effect) (fault : DocumentFault) (s : Site) (arcs : List Arc) (before middle : Option (List ℕ)) (lines start : ℕ) → IsValid s → AreArcs s arcs → GivesFront before middle (site_lines s)
+fault_behind_ends : (input : Effect) (fault : DocumentFault) (s : Site) (before middle : Option (List ℕ)) (lines start : ℕ) → IsValid s → GivesFront before middle (site_lines s)
     → ((bytes : List ℕ) → Held input bytes → before ≡ Some bytes) → start ≡ 0 → lines ≡ lines_after start (line_count (site_lines s)) → line_count (site_lines s) ≤ 34100
     → ((x : Refusal) (rest : List ℕ) (others : List Arc) → ◌≡◌ {A = Result Accepted DocumentFault} (Err fault) (Err (RefusedDocument x)) → middle ≡ Some rest → AreArcs s others
     → lines + 60000000 < 2 ^ 64 → IsRefusedAfter s others AtBudget rest (lines + 1) x.line x.cause)
+    → IfRefused {A = Accepted} (Err fault) (λ x. (arcs : List Arc) × AreArcs s arcs)
     → (◌≡◌ {A = Result Accepted DocumentFault} (Err fault) (Err DocumentRead) → Faulted input) → ReadsDocument input (Err (document_fault fault))
-fault_behind_ends input (RefusedDocument x) s arcs before middle lines start valid are gives told none number few refused read =
+fault_behind_ends input (RefusedDocument x) s before middle lines start valid gives told none number few refused (arcs, are) read =
     λ bytes t. inr (refused_behind_site s arcs before middle bytes lines start x valid are gives (told bytes t) none number few (λ rest is small. refused x rest arcs refl is are small))
-fault_behind_ends input DocumentRead s arcs before middle lines start valid are gives told none number few refused read = read refl
-fault_behind_ends input DocumentMemory s arcs before middle lines start valid are gives told none number few refused read = tt
+fault_behind_ends input DocumentRead s before middle lines start valid gives told none number few refused listed read = read refl
+fault_behind_ends input DocumentMemory s before middle lines start valid gives told none number few refused listed read = tt
 
-pub document_fails : (input : Effect) (fault : DocumentFault) (answer : Fault) (s : Site) (arcs : List Arc) (before middle : Option (List ℕ)) (lines start : ℕ) → answer ≡ document_fault fault
-    → IsValid s → AreArcs s arcs → GivesFront before middle (site_lines s)
+pub document_fails : (input : Effect) (fault : DocumentFault) (answer : Fault) (s : Site) (before middle : Option (List ℕ)) (lines start : ℕ) → answer ≡ document_fault fault
+    → IsValid s → GivesFront before middle (site_lines s)
     → ((bytes : List ℕ) → Held input bytes → before ≡ Some bytes) → start ≡ 0 → lines ≡ lines_after start (line_count (site_lines s)) → line_count (site_lines s) ≤ 34100
     → ((x : Refusal) (rest : List ℕ) (others : List Arc) → ◌≡◌ {A = Result Accepted DocumentFault} (Err fault) (Err (RefusedDocument x)) → middle ≡ Some rest → AreArcs s others
     → lines + 60000000 < 2 ^ 64 → IsRefusedAfter s others AtBudget rest (lines + 1) x.line x.cause)
+    → IfRefused {A = Accepted} (Err fault) (λ x. (arcs : List Arc) × AreArcs s arcs)
     → (◌≡◌ {A = Result Accepted DocumentFault} (Err fault) (Err DocumentRead) → Faulted input) → ReadsDocument input (Err answer)
-document_fails input fault answer s arcs before middle lines start is valid are gives told none number few refused read =
-    subst (λ (f : Fault). ReadsDocument input (Err f)) (sym is) (fault_behind_ends input fault s arcs before middle lines start valid are gives told none number few refused read)
+document_fails input fault answer s before middle lines start is valid gives told none number few refused listed read =
+    subst (λ (f : Fault). ReadsDocument input (Err f)) (sym is) (fault_behind_ends input fault s before middle lines start valid gives told none number few refused listed read)
 
 -- the cables of a document can be reported
 cables_reported : (s : Site) (cables : List Cable) (claim : Claim) → LayoutAgrees s cables claim → All (IsReported s cables) cables

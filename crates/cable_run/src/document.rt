@@ -5,7 +5,6 @@ ghost use Rattle.cable_run.specs.Steps.{ReadsDocument};
 
 use crate::fault::{Fault, in_document};
 use cable_text::{Lines, Source};
-use candidate_cables::Arcs;
 use document_check::{Accepted, read_document};
 use site_model::Site;
 use site_text::read_site;
@@ -23,8 +22,6 @@ pub(crate) fn read_checked<S: Source>(
         Ok(site) => site,
         Err(fault) => return Err(in_document(fault)),
     };
-    // The definition of a refusal speaks of the site's arcs.
-    let _arcs = Arcs::new(alloc, &site)?;
     let accepted = read_document(alloc, &site, &mut lines, input)?;
     Ok((site, accepted))
 }

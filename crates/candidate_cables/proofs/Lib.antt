@@ -4,3 +4,5 @@ pub mod Candidates
 pub mod Numbering
 -- for callers: the arcs of a site have the length and the charge of their pairs
 pub mod Measuring
+-- for callers: what an arc costs at the power of its start
+pub mod OwnCosts

@@ -9,10 +9,12 @@ ghost use Rattle.candidate_cables.specs.Tables.{IsNumberOf, IsFirstFrom, AreNumb
 
 mod clashes;
 mod listing;
+mod own_costs;
 mod tables;
 
 use crate::clashes::are_incompatible;
 use crate::listing::all_arcs;
+pub use crate::own_costs::own_cost;
 use crate::tables::{Numbers, all_into, first_numbers};
 pub use cable_definitions::cable::Arc;
 use site_model::Site;

@@ -56,6 +56,13 @@ pub pass_first : (A : Type 0) (kept : Option ItemFault) (fault : ItemFault) (oth
     → IfNone kept (IfItemRefused {A = A} (Err fault) P) → OfRefusal other Q
 pass_first A kept fault other none e P Q turn h = pass_refusal A fault other e P Q turn (at_none kept none h)
 
+-- what holds of every refusal holds of this one
+pub of_any : {A : Type 0} → (result : Result A DocumentFault) (P : Refusal → Type 0) → ((refusal : Refusal) → P refusal) → IfRefused result P
+of_any (Ok a) P h = tt
+of_any (Err (Refused refusal)) P h = h refusal
+of_any (Err Read) P h = tt
+of_any (Err Memory) P h = tt
+
 pub turn_refusal : (fault : DocumentFault) (P Q : Refusal → Type 0) → ((refusal : Refusal) → P refusal → Q refusal) → OfRefusal fault P → OfRefusal fault Q
 turn_refusal (Refused refusal) P Q turn h = turn refusal h
 turn_refusal Read P Q turn h = tt

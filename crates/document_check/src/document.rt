@@ -17,6 +17,7 @@ ghost use Rattle.document_check.specs.Progress.{HasRead, IsRefusedFrom, ReadsOn,
 
 use cable_definitions::claim::{Claim, Refusal};
 use cable_text::{Lines, Source};
+use candidate_cables::Arcs;
 use layout_meaning::Layout;
 use proof_checker::Checker;
 use proof_text::{ItemFault, ItemReader, Next, read_claim, read_close, read_layout};
@@ -52,14 +53,16 @@ fn reading_fault(fault: ItemFault) -> DocumentFault
     }
 }
 
-/// Reads the line `budget N`, and makes the checker of the items behind it.
+/// Reads the line `budget N`, and makes the checker of the items behind it, with the site's arcs.
 fn begin_document<'a, S: Source>(
     alloc: Global,
     site: &'a Site,
+    arcs: Arcs,
     reader: &mut ItemReader,
     lines: &mut Lines,
     src: &mut S,
 ) -> Result<Checker<'a>, DocumentFault>
+    requires own_arcs { AreArcs site.now arcs }
     requires readable { reader.old.fault ≡ None }
     requires no_fault { lines.old.fault ≡ None }
     ensures site { IfOk result (λ checker. checker.site ≡ site.now) }
@@ -70,7 +73,7 @@ fn begin_document<'a, S: Source>(
         lines.old.lines lines.new.lines (state AtItem checker.budget checker.state []) (items_text checker.budget)) }
     ensures readable { OnOk result (reader.new.fault ≡ None) }
     ensures no_fault { OnOk result (lines.new.fault ≡ None) }
-    ensures refused { IfRefused result (λ refusal. (arcs : List AnArc) → IsRefusedFrom site.now arcs (ahead lines.old (S.state src.old)) lines.old.lines refusal) }
+    ensures refused { IfRefused result (λ refusal. (others : List AnArc) → IsRefusedFrom site.now others (ahead lines.old (S.state src.old)) lines.old.lines refusal) }
     ensures read { IfRead result (FaultsRose (S.state src.old) (S.state src.new)) }
     ensures count { FaultsOnlyRise (S.state src.old) (S.state src.new) }
 {
@@ -78,7 +81,7 @@ fn begin_document<'a, S: Source>(
         Ok(budget) => budget,
         Err(fault) => return Err(reading_fault(fault)),
     };
-    match Checker::begin(alloc, site, budget) {
+    match Checker::with_arcs(alloc, site, arcs, budget) {
         Ok(checker) => Ok(checker),
         Err(_) => Err(DocumentFault::Memory),
     }
@@ -213,7 +216,8 @@ fn read_end_of_document<S: Source>(
 }
 
 /// Reads the lines of a document behind those of its site to the end of the input, and checks each item
-/// when it is read. Once the first line is read it takes no memory, and it holds no list of items.
+/// when it is read. The site's arcs are listed once, before the first line is read; once that line is read it
+/// takes no memory, and it holds no list of items.
 ///
 /// # Errors
 ///
@@ -234,16 +238,21 @@ pub fn read_document<S: Source>(
     ensures refused { (refusal : AnyRefusal) (bytes : List ℕ) (arcs : List AnArc) → result ≡ Err (DocumentFault.Refused refusal)
         → ahead lines.old (S.state src.old) ≡ Some bytes → AreArcs site.now arcs → lines.old.lines + 60000000 < 2 ^ 64
         → IsRefusedAfter site.now arcs AtBudget bytes (lines.old.lines + 1) refusal.line refusal.cause }
+    // A refusal speaks of the site's arcs, and there is a list of them.
+    ensures listed { IfRefused result (λ refusal. (arcs : List AnArc) × AreArcs site.now arcs) }
     ensures read { result ≡ Err DocumentFault.Read → FaultsRose (S.state src.old) (S.state src.new) }
     ensures count { FaultsOnlyRise (S.state src.old) (S.state src.new) }
 {
+    let Ok(arcs) = Arcs::new(alloc, site) else {
+        return Err(DocumentFault::Memory);
+    };
     let Ok(mut reader) = ItemReader::new(alloc) else {
         return Err(DocumentFault::Memory);
     };
     let Ok(mut layout) = Layout::new(alloc) else {
         return Err(DocumentFault::Memory);
     };
-    let mut checker = begin_document(alloc, site, &mut reader, lines, src)?;
+    let mut checker = begin_document(alloc, site, arcs, &mut reader, lines, src)?;
     let count = feed_items(&mut checker, &mut reader, lines, src)?;
     let claim = read_end_of_document(&mut checker, lines, src, site, count, &mut layout)?;
     Ok(Accepted { layout, claim })

@@ -138,7 +138,7 @@ cheapest-le s from to load grade other h b = by (cost_of s from to grade load) (
     by c d (inr x) = let e : c ≡ d = x.0 in omega arith
 
 -- the start is at most the greatest capacity
-start-le_greatest : (types : List CableType) (start : ℕ) → start ≤ fold (λ most t. max most t.capacity) start types
+pub start-le_greatest : (types : List CableType) (start : ℕ) → start ≤ fold (λ most t. max most t.capacity) start types
 start-le_greatest [] start = omega arith
 start-le_greatest (t ∷ types) start = let l = start-le_greatest types (max start t.capacity) in let m : start ≤ max start t.capacity = omega arith in omega arith
 

@@ -10,7 +10,8 @@ use Rattle.number_laws.proofs.Keys.{slice_get-append_one}
 use Rattle.layout_laws.proofs.Alike.{load-same}
 use Rattle.layout_laws.proofs.Arcs.{SameEnds-from_arcs}
 use Rattle.layout_laws.specs.Cheapest.{IsCheapestOrZero}
-use Rattle.layout_meaning.proofs.Places.{slice_get_below, slice_get_at, same_item}
+use Rattle.std.proofs.lemmas.Option.{slice_get_within, slice_get-get_or}
+use Rattle.number_laws.proofs.Places.{same_item}
 
 -- the same cables, each of the cheapest type that bears the load that a whole list gives it, or of type 0 where none does
 pub record AreTyped (s : Site) (whole cables typed : List Cable) : Type 0 where
@@ -36,8 +37,8 @@ typed_more s whole cables typed i c grade e t best = record {
 
     more : take (i + 1) cables ≡ take i cables ++ c ∷ []
     more =
-        let l = slice_get_below cables i c e in
-        take_more cables i c l ∙ ap (λ (x : Cable). take i cables ++ x ∷ []) (same_item cables i (get_or cables i c) c (slice_get_at cables i c l) e)
+        let l = slice_get_within cables i c e in
+        take_more cables i c l ∙ ap (λ (x : Cable). take i cables ++ x ∷ []) (same_item cables i (get_or cables i c) c (slice_get-get_or cables i c l) e)
 
 -- all cables
 pub cheap_typed : (s : Site) (cables typed : List Cable) (i : ℕ) → length cables ≤ i → AreTyped s cables (take i cables) typed → AreCheapTyped s cables typed
@@ -47,5 +48,5 @@ cheap_typed s cables typed i h part =
       arcs = t.arcs;
       types = λ j d l.
           let c : Cable = get_or typed j d in
-          subst (λ (n : ℕ). IsCheapestOrZero s c.from c.to n c.grade) (sym (load-same s typed cables (SameEnds-from_arcs typed cables t.arcs) c.from)) (t.types j c (slice_get_at typed j d l));
+          subst (λ (n : ℕ). IsCheapestOrZero s c.from c.to n c.grade) (sym (load-same s typed cables (SameEnds-from_arcs typed cables t.arcs) c.from)) (t.types j c (slice_get-get_or typed j d l));
     }

@@ -12,7 +12,8 @@ use Rattle.cable_definitions.specs.Walk.{load}
 use Rattle.cable_definitions.specs.Layout.{IsCable, KeepsCandidate, KeepsCapacity}
 use Rattle.plane_geometry.proofs.Lengths.{IsLength-length_of, length_small}
 use Rattle.site_model.proofs.Costs.{rate_small, metres_small, charge_small, type_at}
-use Rattle.layout_meaning.proofs.Places.{same_item, slice_get_below}
+use Rattle.std.proofs.lemmas.Option.{slice_get_within}
+use Rattle.number_laws.proofs.Places.{same_item}
 
 -- the cable at the place is a candidate arc
 pub candidate_here : (s : Site) (cables : List Cable) (i : ℕ) (c : Cable) → IsCable cables i c → IsCandidate s c.from c.to → KeepsCandidate s cables i
@@ -20,7 +21,7 @@ candidate_here s cables i c h k d g = subst (λ (x : Cable). IsCandidate s x.fro
 
 -- past the cables the rule is kept
 pub candidate_past : (s : Site) (cables : List Cable) (i : ℕ) → length cables ≤ i → KeepsCandidate s cables i
-candidate_past s cables i h c g = absurd (let b = slice_get_below cables i c g in omega (arith, b))
+candidate_past s cables i h c g = absurd (let b = slice_get_within cables i c g in omega (arith, b))
 
 -- a capacity is at most 10,000
 pub capacity_small : (s : Site) (grade : ℕ) → IsValid s → capacity_of s grade ≤ 10000

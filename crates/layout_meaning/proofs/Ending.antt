@@ -7,7 +7,8 @@ use Rattle.cable_definitions.specs.Site.{Site}
 use Rattle.cable_definitions.specs.Arcs.{IsPoint, kind_from, kind_of, is_bend}
 use Rattle.cable_definitions.specs.Walk.{cable_out, starts_in, ends_in}
 use Rattle.cable_definitions.specs.Layout.{KeepsRange, KeepsBend, KeepsEnd, Starts}
-use Rattle.layout_meaning.proofs.Places.{slice_get_below, out_place}
+use Rattle.std.proofs.lemmas.Option.{slice_get_within}
+use Rattle.layout_meaning.proofs.Places.{out_place}
 
 -- as many cables start as end in the bend, and at most one
 pub bend_here : (s : Site) (cables : List Cable) (p : ℕ) → starts_in cables p ≡ ends_in cables p → starts_in cables p ≤ 1 → KeepsBend s cables p
@@ -26,8 +27,8 @@ bend_other s cables p n = record {
 -- past the points there is no bend
 pub bend_past : (s : Site) (cables : List Cable) (p : ℕ) → length s.points ≤ p → KeepsBend s cables p
 bend_past s cables p h = record {
-  as_many = λ point g b. absurd (let k = slice_get_below s.points p point g in omega (arith, k));
-  at_most_one = λ point g b. absurd (let k = slice_get_below s.points p point g in omega (arith, k));
+  as_many = λ point g b. absurd (let k = slice_get_within s.points p point g in omega (arith, k));
+  at_most_one = λ point g b. absurd (let k = slice_get_within s.points p point g in omega (arith, k));
 }
 
 -- where all numbers are of the site, a cable starts in a point of the site alone

@@ -10,7 +10,7 @@ use Rattle.cable_definitions.specs.Walk.{load}
 use Rattle.cable_definitions.specs.Layout.{IsCable, KeepsRange, KeepsPower}
 use Rattle.layout_meaning.specs.Partial.{SitePart}
 use Rattle.layout_meaning.specs.Typed.{JoinPoints}
-use Rattle.layout_meaning.proofs.Places.{slice_get_at, slice_get_below}
+use Rattle.std.proofs.lemmas.Option.{slice_get-get_or, slice_get_within}
 use Rattle.layout_meaning.proofs.Costing.{cost_step}
 
 -- what is true of a site and cables that were read is true of those that they were read from
@@ -23,7 +23,7 @@ flows_are s xs ys flows e f = e ∙ ap (λ (zs : List Cable). record { site = s;
 
 -- the cable that is read at a place of the same list
 pub cable_there : (xs ys : List Cable) (i : ℕ) (d : Cable) → ys ≡ xs → i < length ys → IsCable xs i (get_or ys i d)
-cable_there xs ys i d e h = subst (λ (zs : List Cable). IsCable zs i (get_or ys i d)) e (slice_get_at ys i d h)
+cable_there xs ys i d e h = subst (λ (zs : List Cable). IsCable zs i (get_or ys i d)) e (slice_get-get_or ys i d h)
 
 -- cables whose numbers are of the site join its points
 pub range_joins : (s : Site) (cables : List Cable) → ((i : ℕ) → KeepsRange s cables i) → JoinPoints s cables
@@ -35,7 +35,7 @@ power_past s cables p h feeders power e = absurd (by_point (slice_get s.points p
   where
     by_point : (o : Option Point) → slice_get s.points p ≡ o → ⊥
     by_point None g = let f : kind_from None ≡ Substation feeders power = ap kind_from (sym g) ∙ e in absurd (cc)
-    by_point (Some point) g = absurd (let k = slice_get_below s.points p point g in omega (arith, k))
+    by_point (Some point) g = absurd (let k = slice_get_within s.points p point g in omega (arith, k))
 
 -- the running total of the costs, with one cable more, which is read from the same list
 pub cost_step_read : (s : Site) (xs ys : List Cable) (i : ℕ) (d : Cable) (total carried here : ℕ) → ys ≡ xs → i < length ys

@@ -13,7 +13,7 @@ use Rattle.cable_definitions.specs.Part.{IsGrown}
 use Rattle.number_laws.proofs.Keys.{sum_by-keys, value_at, first_at, DifferentKeys, KeysBelow, slice_get-append_one}
 use Rattle.layout_laws.proofs.Arcs.{StartsDiffer-append_one}
 use Rattle.layout_meaning.specs.Typed.{JoinPoints}
-use Rattle.layout_meaning.proofs.Places.{slice_get_below}
+use Rattle.std.proofs.lemmas.Option.{slice_get_within}
 
 -- a sum of ones
 ones : {X : Type 0} → (xs : List X) → sum_by (λ (x : X). 1) xs ≡ length xs
@@ -53,8 +53,8 @@ room_for s part p valid grown within not_joined =
 
 -- a candidate arc starts in a point
 pub candidate_from : (s : Site) (p q : ℕ) → IsCandidate s p q → p < length s.points
-candidate_from s p q c = slice_get_below s.points p c.from c.from_is
+candidate_from s p q c = slice_get_within s.points p c.from c.from_is
 
 -- and ends in one
 pub candidate_to : (s : Site) (p q : ℕ) → IsCandidate s p q → q < length s.points
-candidate_to s p q c = slice_get_below s.points q c.to c.to_is
+candidate_to s p q c = slice_get_within s.points q c.to c.to_is

@@ -4,7 +4,8 @@ use Rattle.cable_definitions.specs.declared.cable.Cable.{Cable}
 use Rattle.cable_definitions.specs.Site.{Site}
 use Rattle.cable_definitions.specs.Layout.{IsCable, KeepsRange}
 use Rattle.layout_meaning.specs.Numbers.{AreNumbers}
-use Rattle.layout_meaning.proofs.Places.{same_item, slice_get_below}
+use Rattle.std.proofs.lemmas.Option.{slice_get_within}
+use Rattle.number_laws.proofs.Places.{same_item}
 
 -- the cable at the place has numbers of the site
 pub range_here : (s : Site) (cables : List Cable) (i : ℕ) (c : Cable) → IsCable cables i c → AreNumbers s c → KeepsRange s cables i
@@ -21,7 +22,7 @@ numbers_here s cables i c h k = record { from = k.from c h; to = k.to c h; grade
 -- past the cables the rule is kept
 pub range_past : (s : Site) (cables : List Cable) (i : ℕ) → length cables ≤ i → KeepsRange s cables i
 range_past s cables i h = record {
-  from = λ c g. absurd (let b = slice_get_below cables i c g in omega (arith, b));
-  to = λ c g. absurd (let b = slice_get_below cables i c g in omega (arith, b));
-  grade = λ c g. absurd (let b = slice_get_below cables i c g in omega (arith, b));
+  from = λ c g. absurd (let b = slice_get_within cables i c g in omega (arith, b));
+  to = λ c g. absurd (let b = slice_get_within cables i c g in omega (arith, b));
+  grade = λ c g. absurd (let b = slice_get_within cables i c g in omega (arith, b));
 }

@@ -2,28 +2,13 @@
 use Rattle.std.proofs.Common.{◌≡◌, ◌≢◌, ℕ, zero, suc, ◌<◌, ◌≤◌, List, [], ◌∷◌, length, get_or, Bool, true, false, cond, Some, None, inl, inr, arith, refl, sym, ap, ◌∙◌}
 use Rattle.std.specs.Prelude.{slice_get, ◌==◌}
 use Rattle.std.proofs.lemmas.Bool.{eqb-true, eqb-false, cases_lt}
+use Rattle.std.proofs.lemmas.Option.{slice_get-get_or}
 use Rattle.cable_definitions.specs.declared.cable.Cable.{Cable}
 use Rattle.cable_definitions.specs.declared.site.Point.{Point}
 use Rattle.cable_definitions.specs.Site.{Site}
 use Rattle.cable_definitions.specs.Arcs.{IsPoint}
 use Rattle.cable_definitions.specs.Walk.{cable_out}
 use Rattle.cable_definitions.specs.Layout.{IsCable}
-
--- the item at a place below the length
-pub slice_get_at : {X : Type 0} → (xs : List X) (i : ℕ) (d : X) → i < length xs → slice_get xs i ≡ Some (get_or xs i d)
-slice_get_at [] i d h = absurd (omega arith)
-slice_get_at (x ∷ xs) zero d h = refl
-slice_get_at (x ∷ xs) (suc i) d h = slice_get_at xs i d (omega arith)
-
--- what stands at a place stands below the length
-pub slice_get_below : {X : Type 0} → (xs : List X) (i : ℕ) (x : X) → slice_get xs i ≡ Some x → i < length xs
-slice_get_below [] i x e = absurd (cc)
-slice_get_below (y ∷ xs) zero x e = omega arith
-slice_get_below (y ∷ xs) (suc i) x e = let h = slice_get_below xs i x e in omega (arith, h)
-
--- one item stands at a place
-pub same_item : {X : Type 0} → (xs : List X) (i : ℕ) (x y : X) → slice_get xs i ≡ Some x → slice_get xs i ≡ Some y → x ≡ y
-same_item xs i x y e f = cc
 
 -- the cable at some place of the list that starts in p
 pub record IsOut (cables : List Cable) (p : ℕ) (c : Cable) : Type 0 where
@@ -66,4 +51,4 @@ out_start cables p c e = ap (cable_out cables) (out_place cables p c e).start �
 
 -- the point that is read at an index
 pub point_at : (s : Site) (points : List Point) (i : ℕ) (d : Point) → points ≡ s.points → i < length s.points → IsPoint s i (get_or points i d)
-point_at s points i d e h = ap (λ (xs : List Point). slice_get xs i) (sym e) ∙ slice_get_at points i d (omega (arith, ap (length {A = Point}) e))
+point_at s points i d e h = ap (λ (xs : List Point). slice_get xs i) (sym e) ∙ slice_get-get_or points i d (omega (arith, ap (length {A = Point}) e))

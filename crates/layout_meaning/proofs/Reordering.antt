@@ -11,7 +11,8 @@ use Rattle.cable_definitions.specs.declared.cable.Cable.{Cable}
 use Rattle.cable_definitions.specs.Walk.{cable_out}
 use Rattle.cable_definitions.specs.Layout.{IsCable}
 use Rattle.layout_laws.specs.Alike.{StartsDiffer, SameOuts}
-use Rattle.layout_meaning.proofs.Places.{slice_get_at, slice_get_below, out_place, out_none}
+use Rattle.std.proofs.lemmas.Option.{slice_get-get_or, slice_get_within}
+use Rattle.layout_meaning.proofs.Places.{out_place, out_none}
 use Rattle.layout_meaning.proofs.Starting.{is_out}
 
 -- whether two cables start alike
@@ -24,19 +25,19 @@ unfolding IsDistinct
 distinct_from [] differ = tt
 distinct_from (x ∷ xs) differ = (
   recursion_from_All (λ (y : Cable). starts_alike x y ≡ false) xs
-      (λ k d h. ne_eqb x.from (get_or xs k d).from (differ (suc k) 0 (get_or xs k d) x (slice_get_at xs k d h) refl (omega arith))),
+      (λ k d h. ne_eqb x.from (get_or xs k d).from (differ (suc k) 0 (get_or xs k d) x (slice_get-get_or xs k d h) refl (omega arith))),
   distinct_from xs (λ i j c d h k less. differ (suc i) (suc j) c d h k (omega arith)),
 )
 
 -- and back
 pub differ_from : (cables : List Cable) → IsDistinct starts_alike cables → StartsDiffer cables
 unfolding IsDistinct
-differ_from [] distinct i j c d h k less = absurd (let b = slice_get_below {X = Cable} [] i c h in omega (arith, b))
+differ_from [] distinct i j c d h k less = absurd (cc)
 differ_from (x ∷ xs) distinct zero j c d h k less = absurd (omega arith)
 differ_from (x ∷ xs) distinct (suc i) zero c d h k less =
     let all = All-from_recursion (λ (y : Cable). starts_alike x y ≡ false) xs distinct.0 in
-    let below = slice_get_below xs i c h in
-    let same : get_or xs i c ≡ c = cc (slice_get_at xs i c below) in
+    let below = slice_get_within xs i c h in
+    let same : get_or xs i c ≡ c = cc (slice_get-get_or xs i c below) in
     let first : x ≡ d = cc in
     λ e. eqb-false x.from (get_or xs i c).from (all i c below) (cc)
 differ_from (x ∷ xs) distinct (suc i) (suc j) c d h k less = differ_from xs distinct.1 i j c d h k (omega arith)
@@ -47,7 +48,7 @@ differ_again xs ys order differ = differ_from ys (IsDistinct-IsPermutation start
 
 -- a cable at a place is in the list
 contains_at : (cables : List Cable) (i : ℕ) (c : Cable) → IsCable cables i c → Contains cables c
-contains_at cables i c h = let below = slice_get_below cables i c h in (i, below, cc (slice_get_at cables i c below))
+contains_at cables i c h = let below = slice_get_within cables i c h in (i, below, cc (slice_get-get_or cables i c below))
 
 -- a cable of one list stands at some place of the other
 pub record IsAlsoIn (cables : List Cable) (c : Cable) : Type 0 where
@@ -58,7 +59,7 @@ pub record IsAlsoIn (cables : List Cable) (c : Cable) : Type 0 where
 also_in : (xs ys : List Cable) (i : ℕ) (c : Cable) → IsPermutation xs ys → IsCable xs i c → IsAlsoIn ys c
 also_in xs ys i c order h =
     let k = Contains-permutation xs ys c order (contains_at xs i c h) in
-    record { place = k.0; is_cable = slice_get_at ys k.0 c k.1 ∙ ap (λ (x : Cable). Some x) k.2 }
+    record { place = k.0; is_cable = slice_get-get_or ys k.0 c k.1 ∙ ap (λ (x : Cable). Some x) k.2 }
 
 -- where starts differ, the first cable out of each point is the same in another order
 pub outs_again : (xs ys : List Cable) → IsPermutation xs ys → StartsDiffer xs → SameOuts xs ys

@@ -10,7 +10,8 @@ use Rattle.cable_definitions.specs.Walk.{cable_out, load}
 use Rattle.cable_definitions.specs.Layout.{IsCable, KeepsRange, KeepsStart, KeepsCapacity, KeepsClear, SamePair, PairsClash, IsBefore}
 use Rattle.layout_meaning.specs.First.{IsFirst, IsFirstStart, IsFirstPair}
 use Rattle.layout_meaning.specs.Numbers.{AreNumbers}
-use Rattle.layout_meaning.proofs.Places.{same_item, out_place, out_none}
+use Rattle.number_laws.proofs.Places.{same_item}
+use Rattle.layout_meaning.proofs.Places.{out_place, out_none}
 use Rattle.layout_meaning.proofs.Numbering.{numbers_here}
 
 -- an option that is no `Some` is `None`

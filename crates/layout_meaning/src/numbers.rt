@@ -29,12 +29,10 @@ pub(crate) fn first_out_of_range(site: &Site, cables: &[Cable]) -> Option<u32>
     ensures none { IfNone result ((i : ℕ) → KeepsRange site.now cables.now i) }
     ensures first { IfSome result (IsFirst (KeepsRange site.now cables.now)) }
 {
-    let mut i: u32 = 0;
-    for cable in cables {
+    for (place, cable) in cables.iter().enumerate() {
         if !has_numbers_of(site, *cable) {
-            return Some(i);
+            return Some(place as u32);
         }
-        i += 1;
     }
     None
 }

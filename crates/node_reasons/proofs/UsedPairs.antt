@@ -9,7 +9,7 @@ use Rattle.cable_definitions.specs.Site.{Site}
 use Rattle.cable_definitions.specs.Arcs.{AreArcs, ArcBefore}
 use Rattle.cable_definitions.specs.Row.{AreIncompatible}
 use Rattle.cable_definitions.specs.Tree.{IsUsedPair}
-use Rattle.proof_laws.proofs.Compatible.{PairsClash-swapped}
+use Rattle.proof_laws.proofs.Compatible.{incompatible-swapped}
 use Rattle.proof_laws.proofs.Lists.{pairs_at}
 use Rattle.node_reasons.specs.Reasons.{AreIncompatibleAt}
 use Rattle.node_reasons.specs.Used.{UsedList, IsUsed, StartAlike, AreUsed}
@@ -23,19 +23,6 @@ incompatible_at s arcs a b x y r e f h = (
       let q : k.second ≡ y = cc in
       h.1 (subst (λ (z : Arc). AreIncompatible s x z) q (subst (λ (z : Arc). AreIncompatible s z k.second) p k.incompatible)),
 )
-
--- two arcs are incompatible in either order
-pub incompatible-swapped : (s : Site) (x y : Arc) → AreIncompatible s x y → AreIncompatible s y x
-incompatible-swapped s x y h = record {
-  different = λ e. h.different (sym e.0, sym e.1);
-  apart = elim h.apart [
-    | inl near ↦ inl (elim near [
-      | inl same ↦ inl (sym same)
-      | inr back ↦ inr (sym back.1, sym back.0)
-    ])
-    | inr clash ↦ inr (PairsClash-swapped s x.from x.to y.from y.to clash)
-  ];
-}
 
 -- two used arcs that start alike
 pub same_start_pair : (s : Site) (arcs : List Arc) (marks : List Mark) (a b : ℕ) → AreArcs s arcs → StartAlike arcs marks a b → (a ≢ b) × IsUsedPair s arcs marks a b

@@ -1,8 +1,12 @@
--- Sums over the numbered elements of a list.
+-- Elements of a list by their places, and sums over the numbered elements.
 use Rattle.std.proofs.Common.{◌≡◌, ℕ, zero, suc, ◌+◌, ◌<◌, false, true, cond, eqb, Option, Some, None, option_map, length, ap, List, [], ◌∷◌, sum_by, slice_get, refl, arith, ne_eqb, eq-eqb}
 use Rattle.std.specs.List.{enumerate_from, range_with_len}
 use Rattle.std.proofs.lemmas.List.Sums.{sum_by-cons}
 use Rattle.number_laws.proofs.Keys.{value_at}
+
+-- one element stands at a place
+pub same_item : {X : Type 0} → (xs : List X) (i : ℕ) (x y : X) → slice_get xs i ≡ Some x → slice_get xs i ≡ Some y → x ≡ y
+same_item xs i x y e f = cc
 
 -- no element has a number below the first
 pub sum_by-place_before : {X : Type 0} → (f : X → ℕ) (xs : List X) (n k : ℕ) → k < n → sum_by (λ (x : ℕ × X). cond (eqb x.0 k) (f x.1) 0) (enumerate_from n xs) ≡ 0

@@ -1,6 +1,6 @@
 //! The check of a document as a state: rows and works are fed one by one, and the claim at the end.
 
-ghost use Rattle.std.specs.Prelude.{◌≡◌, ℕ, ◌≤◌, List, [], None, Some, IfOk, OnOk, IfErr};
+ghost use Rattle.std.specs.Prelude.{◌≡◌, ◌≤◌, List, None, Some, IfOk, OnOk, IfErr};
 ghost use Rattle.cable_definitions.specs.declared.claim.Cause.{Cause as AnyCause};
 ghost use Rattle.cable_definitions.specs.Arcs.{AreArcs};
 ghost use Rattle.cable_definitions.specs.Tree.{Item, RowItem, WorkItem, empty_state, Accepts, IsAccepted, Agrees, Says};
@@ -75,6 +75,29 @@ impl<'a> Checker<'a> {
         ensures refused { IfOk result (λ checker. checker.refused ≡ None) }
     {
         let arcs = Arcs::new(alloc, site)?;
+        Checker::with_arcs(alloc, site, arcs, budget)
+    }
+
+    /// The same, where the site's arcs are listed already. All else that it needs of memory is taken here.
+    ///
+    /// # Errors
+    ///
+    /// `AllocError` for want of memory alone.
+    pub fn with_arcs(
+        alloc: Global,
+        site: &'a Site,
+        arcs: Arcs,
+        budget: u32,
+    ) -> Result<Checker<'a>, AllocError>
+        requires own_arcs { AreArcs site.now arcs }
+        requires some_work { 1 ≤ budget }
+        requires most_works { budget ≤ 50000 }
+        ensures site { IfOk result (λ checker. checker.site ≡ site.now) }
+        ensures arcs { IfOk result (λ checker. checker.arcs ≡ arcs) }
+        ensures budget { IfOk result (λ checker. checker.budget ≡ budget) }
+        ensures state { IfOk result (λ checker. checker.state ≡ empty_state) }
+        ensures refused { IfOk result (λ checker. checker.refused ≡ None) }
+    {
         let ceiling = ceiling(site, &arcs);
         let pool = RowPool::new(alloc)?;
         let tree = Tree::new(alloc, budget, arcs.len())?;

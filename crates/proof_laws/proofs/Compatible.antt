@@ -50,6 +50,19 @@ PairsClash-swapped s a b c d k = record {
   clash = Clash-swapped k.from.at k.to.at k.other_from.at k.other_to.at k.clash;
 }
 
+-- two arcs are incompatible in either order
+pub incompatible-swapped : (s : Site) (x y : Arc) → AreIncompatible s x y → AreIncompatible s y x
+incompatible-swapped s x y h = record {
+  different = λ e. h.different (sym e.0, sym e.1);
+  apart = elim h.apart [
+    | inl near ↦ inl (elim near [
+      | inl same ↦ inl (sym same)
+      | inr back ↦ inr (sym back.1, sym back.0)
+    ])
+    | inr clash ↦ inr (PairsClash-swapped s x.from x.to y.from y.to clash)
+  ];
+}
+
 -- What keeps two arcs apart, of the starts and ends alone.
 pub record AreApart (s : Site) (a b c d : ℕ) : Type 0 where
   pub different : ¬ ((a ≡ c) × (b ≡ d))

@@ -5,9 +5,9 @@ use Rattle.std.proofs.lemmas.Bool.{not_from_false}
 use Rattle.cable_definitions.specs.declared.claim.Cause.{Cause}
 use Rattle.cable_definitions.specs.declared.claim.Cause.TheVariants.{Line, Form, Site as SiteCause, Row, Limit, Node, Weight, Arc, Dead, Full, Layout, Verdict}
 use Rattle.cable_definitions.specs.Site.{Site}
-use Rattle.cable_definitions.specs.Text.{IsWord, words, Piece, Whole, LongLine, CutLine, NoLine}
+use Rattle.cable_definitions.specs.Text.{IsWord, words, Piece, Whole, NoLine}
 use Rattle.cable_definitions.specs.Refusal.{DocLine, line_spelling, IsSpelled, IsWithinLimits, Phase, AtBudget, AtItem, AtWeights, AtCables, AtLast, Past, AtJudged, AtAnyCables, Reader, is_allowed, may_end, IsLineAt, NamesHold, IsBroken, IsFoundByReading, IsLeastCause, IsReadable, cause_number}
-use Rattle.cable_definitions.proofs.Refusals.{none_before_line}
+use Rattle.cable_definitions.proofs.Refusals.{text_of, none_before_line}
 use Rattle.cable_text.proofs.Splitting.{words_injective}
 use Rattle.line_words.specs.Words.{IsCut}
 use Rattle.line_words.specs.Judged.{IsStanding, IsGoodLine, IsBad}
@@ -34,13 +34,6 @@ line_of phase text ws l cut h =
     record { spelled = record { are_words = subst (All IsWord) h.words_are of.are_words; text_is = of.text_is ∙ ap words h.words_are; members = h.members }; allowed = h.allowed }
 
 -- ---- the least cause
--- the text of a whole line
-abbrev text_of : Piece → List ℕ
-text_of (Whole text) = text
-text_of LongLine = []
-text_of CutLine = []
-text_of NoLine = []
-
 line_moved : (phase : Phase) (text other : List ℕ) (l : DocLine) → Whole text ≡ Whole other → IsLineAt phase text l → IsLineAt phase other l
 line_moved phase text other l e h = let P : List ℕ → Type 0 = λ t. IsLineAt phase t l in subst P (ap text_of e) h
 

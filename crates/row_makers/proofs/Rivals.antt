@@ -10,9 +10,9 @@ use Rattle.std.proofs.lemmas.List.Sums.{sum_by-cons, sum_by-append}
 use Rattle.std.proofs.lemmas.List.{take_more}
 use Rattle.std.proofs.lemmas.Option.{slice_get_within, slice_get-get_or, get_or_from_slice_get}
 use Rattle.number_laws.proofs.NatSums.{sum_by-same, sum_by-zeros, sum_by-plus}
-use Rattle.number_laws.proofs.Places.{sum_by-place}
+use Rattle.number_laws.proofs.Places.{same_item, sum_by-place}
 use Rattle.number_laws.proofs.Keys.{value_at}
-use Rattle.proof_laws.proofs.Compatible.{PairsClash-swapped}
+use Rattle.proof_laws.proofs.Compatible.{incompatible-swapped}
 use Rattle.proof_laws.proofs.RowsHold.{rows-hold}
 use Rattle.cable_definitions.specs.declared.cable.Arc.{Arc}
 use Rattle.cable_definitions.specs.declared.row.RowKind.TheVariants.{One}
@@ -24,10 +24,6 @@ use Rattle.bound_shares.specs.Shares.{member_shares}
 use Rattle.row_makers.specs.Rivals.{AreRivals, AreSharedBelow, AreShared, HasNoRival}
 use Rattle.cable_rows.specs.Made.{row_made}
 use Rattle.row_makers.specs.Found.{IsViolatedOne}
-
--- one value of a place
-same_value : {X : Type 0} → (xs : List X) (i : ℕ) (x y : X) → slice_get xs i ≡ Some x → slice_get xs i ≡ Some y → x ≡ y
-same_value xs i x y e f = let k : Some x ≡ Some y = sym e ∙ f in cc
 
 -- what is known of no value
 pub of_none : {X : Type 0} → (o : Option X) (P : Type 0) → o ≡ None → IfNone o P → P
@@ -42,7 +38,7 @@ none_shared shares = record { range = λ k d h. absurd (omega (arith, h)); small
 pub one_shared : (shares shared : List ℕ) (k v : ℕ) → AreSharedBelow shares k shared → slice_get shares k ≡ Some v → v ≤ 2 ^ 20 → AreSharedBelow shares (k + 1) (shared ++ k ∷ [])
 one_shared shares shared k v are e h = record {
   range = All-push (λ (a : ℕ). a < length shares) shared k are.range (slice_get_within shares k v e);
-  small = λ a u l f. below_more (λ (b : ℕ). slice_get shares b ≡ Some u → u ≤ 2 ^ 20) k (λ b m g. are.small b u m g) (λ g. omega (arith, h, same_value shares k v u e g)) a l f;
+  small = λ a u l f. below_more (λ (b : ℕ). slice_get shares b ≡ Some u → u ≤ 2 ^ 20) k (λ b m g. are.small b u m g) (λ g. omega (arith, h, same_item shares k v u e g)) a l f;
   all = λ a u l f s. below_more (λ (b : ℕ). slice_get shares b ≡ Some u → Contains (shared ++ k ∷ []) b) k
       (λ b m g. Contains-append_left shared (k ∷ []) b (are.all b u m g s)) (λ g. Contains-push shared k) a l f;
 }
@@ -51,9 +47,9 @@ one_shared shares shared k v are e h = record {
 pub other_shared : (shares shared : List ℕ) (k v : ℕ) → AreSharedBelow shares k shared → slice_get shares k ≡ Some v → v ≡ 0 → AreSharedBelow shares (k + 1) shared
 other_shared shares shared k v are e h = record {
   range = are.range;
-  small = λ a u l f. below_more (λ (b : ℕ). slice_get shares b ≡ Some u → u ≤ 2 ^ 20) k (λ b m g. are.small b u m g) (λ g. omega (arith, h, same_value shares k v u e g)) a l f;
+  small = λ a u l f. below_more (λ (b : ℕ). slice_get shares b ≡ Some u → u ≤ 2 ^ 20) k (λ b m g. are.small b u m g) (λ g. omega (arith, h, same_item shares k v u e g)) a l f;
   all = λ a u l f s. below_more (λ (b : ℕ). slice_get shares b ≡ Some u → Contains shared b) k
-      (λ b m g. are.all b u m g s) (λ g. absurd (omega (arith, h, s, same_value shares k v u e g))) a l f;
+      (λ b m g. are.all b u m g s) (λ g. absurd (omega (arith, h, s, same_item shares k v u e g))) a l f;
 }
 
 -- ---- rivals
@@ -61,7 +57,7 @@ other_shared shares shared k v are e h = record {
 pub too_few : (s : Site) (arcs : List Arc) (shares : List ℕ) (a b u v : ℕ) → slice_get shares a ≡ Some u → slice_get shares b ≡ Some v → u + v ≤ 2 ^ 20
     → AreRivals s arcs shares a b → ⊥
 too_few s arcs shares a b u v e f h r =
-    omega (arith, h, r.too_much, same_value shares a u r.first_share e r.first_share_is, same_value shares b v r.second_share f r.second_share_is)
+    omega (arith, h, r.too_much, same_item shares a u r.first_share e r.first_share_is, same_item shares b v r.second_share f r.second_share_is)
 
 -- shares that are more
 pub rivals_iff : (s : Site) (arcs : List Arc) (shares : List ℕ) (a b u v : ℕ) (x y : Arc) (t : Bool) → slice_get shares a ≡ Some u → slice_get shares b ≡ Some v → 2 ^ 20 < u + v
@@ -79,23 +75,11 @@ rivals_iff s arcs shares a b u v x y t e f h d g tells = (
     second_share_is = f;
     too_much = h;
   },
-  λ r. tells.1 (subst (λ (z : Arc). AreIncompatible s x z) (same_value arcs b r.second y r.second_is g)
-      (subst (λ (z : Arc). AreIncompatible s z r.second) (same_value arcs a r.first x r.first_is d) r.incompatible)),
+  λ r. tells.1 (subst (λ (z : Arc). AreIncompatible s x z) (same_item arcs b r.second y r.second_is g)
+      (subst (λ (z : Arc). AreIncompatible s z r.second) (same_item arcs a r.first x r.first_is d) r.incompatible)),
 )
 
 -- rivals are so in either order
-incompatible-swapped : (s : Site) (x y : Arc) → AreIncompatible s x y → AreIncompatible s y x
-incompatible-swapped s x y h = record {
-  different = λ e. h.different (sym e.0, sym e.1);
-  apart = elim h.apart [
-    | inl near ↦ inl (elim near [
-      | inl same ↦ inl (sym same)
-      | inr back ↦ inr (sym back.1, sym back.0)
-    ])
-    | inr clash ↦ inr (PairsClash-swapped s x.from x.to y.from y.to clash)
-  ];
-}
-
 pub rivals-swapped : (s : Site) (arcs : List Arc) (shares : List ℕ) (a b : ℕ) → AreRivals s arcs shares a b → AreRivals s arcs shares b a
 rivals-swapped s arcs shares a b r = record {
   first = r.second;
@@ -113,12 +97,12 @@ rivals-swapped s arcs shares a b r = record {
 -- rivals are two arcs
 pub rivals-different : (s : Site) (arcs : List Arc) (shares : List ℕ) (a b : ℕ) → AreRivals s arcs shares a b → a ≢ b
 rivals-different s arcs shares a b r e =
-    let same = same_value arcs a r.first r.second r.first_is (subst (λ (n : ℕ). slice_get arcs n ≡ Some r.second) (sym e) r.second_is) in
+    let same = same_item arcs a r.first r.second r.first_is (subst (λ (n : ℕ). slice_get arcs n ≡ Some r.second) (sym e) r.second_is) in
     r.incompatible.different (ap (λ (x : Arc). x.from) same, ap (λ (x : Arc). x.to) same)
 
 -- an arc with no more than half a cable
 pub half_at_most : (s : Site) (arcs : List Arc) (shares : List ℕ) (a u : ℕ) → slice_get shares a ≡ Some u → u ≤ 2 ^ 19 → HasNoRival s arcs shares a
-half_at_most s arcs shares a u e h v b f more = absurd (omega (arith, h, more, same_value shares a u v e f))
+half_at_most s arcs shares a u e h v b f more = absurd (omega (arith, h, more, same_item shares a u v e f))
 
 -- the place of a listed number
 place_of : (xs : List ℕ) (x : ℕ) → Contains xs x → (k : ℕ) × (slice_get xs k ≡ Some x)
@@ -254,8 +238,8 @@ pair-violated s arcs shares a b valid are h r = record {
     apart zero (suc zero) m n x y l e f d g =
         let first : a ≡ m = cc in
         let second : b ≡ n = cc in
-        subst (λ (z : Arc). AreIncompatible s x z) (same_value arcs b r.second y r.second_is (rw second g))
-        (subst (λ (z : Arc). AreIncompatible s z r.second) (same_value arcs a r.first x r.first_is (rw first d)) r.incompatible)
+        subst (λ (z : Arc). AreIncompatible s x z) (same_item arcs b r.second y r.second_is (rw second g))
+        (subst (λ (z : Arc). AreIncompatible s z r.second) (same_item arcs a r.first x r.first_is (rw first d)) r.incompatible)
     apart i zero m n x y l e f d g = absurd (omega (arith, l))
     apart (suc i) (suc zero) m n x y l e f d g = absurd (omega (arith, l))
     apart i (suc (suc j)) m n x y l e f d g = absurd (omega (arith, slice_get_within (a ∷ b ∷ []) (suc (suc j)) n f))

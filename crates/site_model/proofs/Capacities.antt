@@ -6,6 +6,7 @@ use Rattle.std.proofs.lemmas.List.Elements.{All-tail}
 use Rattle.cable_definitions.specs.declared.site.CableType.{CableType}
 use Rattle.cable_definitions.specs.Site.{Site, IsValid}
 use Rattle.cable_definitions.specs.Arcs.{largest_capacity, capacity_from, capacity_of}
+use Rattle.layout_laws.proofs.Typing.{start-le_greatest}
 use Rattle.site_model.proofs.Costs.{type_is}
 
 -- the greatest of capacities that are small is small
@@ -16,18 +17,10 @@ greatest_small (t ∷ types) start most h a = greatest_small types (max start t.
     either : (a b : ℕ) → a ≤ most → b ≤ most → max a b ≤ most
     either a b h k = grind arith
 
--- the greatest of capacities is no less than the number that it starts from
-greatest_over : (types : List CableType) (start : ℕ) → start ≤ fold (λ most t. max most t.capacity) start types
-greatest_over [] start = omega arith
-greatest_over (t ∷ types) start = over (greatest_over types (max start t.capacity))
-  where
-    over : {most : ℕ} → max start t.capacity ≤ most → start ≤ most
-    over h = grind arith
-
 -- where the first of some types has a capacity, so has the greatest
 greatest_some : (types : List CableType) → 1 ≤ length types → All (λ t. 1 ≤ t.capacity) types → 1 ≤ fold (λ most t. max most t.capacity) 0 types
 greatest_some [] h a = absurd (omega arith)
-greatest_some (t ∷ types) h a = over (greatest_over types (max 0 t.capacity)) (a 0 t (omega arith))
+greatest_some (t ∷ types) h a = over (start-le_greatest types (max 0 t.capacity)) (a 0 t (omega arith))
   where
     over : {most : ℕ} → max 0 t.capacity ≤ most → 1 ≤ t.capacity → 1 ≤ most
     over h k = grind arith

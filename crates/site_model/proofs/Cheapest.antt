@@ -1,9 +1,9 @@
 -- The cheapest type, type by type.
-use Rattle.std.proofs.Common.{◌≡◌, ℕ, ◌+◌, ◌<◌, ◌≤◌, List, [], ◌∷◌, length, get_or, slice_get, Option, Some, None, inl, inr, ◌⊎◌, fold, max, suc, below_more, ap, arith}
+use Rattle.std.proofs.Common.{◌≡◌, ℕ, ◌+◌, ◌<◌, ◌≤◌, List, length, get_or, Option, Some, None, inl, inr, ◌⊎◌, below_more, ap, arith}
 use Rattle.std.proofs.lemmas.Bool.{cases_lt}
 use Rattle.cable_definitions.specs.declared.site.CableType.{CableType}
 use Rattle.cable_definitions.specs.Site.{Site, IsValid}
-use Rattle.cable_definitions.specs.Arcs.{Bears, capacity_of, capacity_from, cost_of, largest_capacity}
+use Rattle.cable_definitions.specs.Arcs.{Bears, capacity_of, capacity_from, cost_of}
 use Rattle.site_model.proofs.Costs.{type_is, type_at}
 use Rattle.site_model.specs.Best.{IsCheapestBelow, IsBestBelow}
 
@@ -70,27 +70,3 @@ first_bearing s from to load grade cost b e h = record {
   cost = e;
   least = below_more (Beats s from to load grade cost) grade (λ g k c. absurd (h g k c)) (λ c. inr (e, omega arith));
 }
-
--- a number that doesn't exceed the greatest capacity exceeds neither the start nor some capacity
-reaches : (types : List CableType) (start load : ℕ) → load ≤ fold (λ most t. max most t.capacity) start types → (load ≤ start) ⊎ ((g : ℕ) × (g < length types) × (load ≤ capacity_from (slice_get types g)))
-reaches [] start load h = inl h
-reaches (t ∷ types) start load h = by (reaches types (max start t.capacity) load h)
-  where
-    split : (a b : ℕ) → load ≤ max a b → (load ≤ a) ⊎ (load ≤ b)
-    split a b h = grind arith
-
-    by : (load ≤ max start t.capacity) ⊎ ((g : ℕ) × (g < length types) × (load ≤ capacity_from (slice_get types g))) → (load ≤ start) ⊎ ((g : ℕ) × (g < suc (length types)) × (load ≤ capacity_from (slice_get (t ∷ types) g)))
-    by (inl k) = last (split start t.capacity k)
-      where
-        last : (load ≤ start) ⊎ (load ≤ t.capacity) → (load ≤ start) ⊎ ((g : ℕ) × (g < suc (length types)) × (load ≤ capacity_from (slice_get (t ∷ types) g)))
-        last (inl a) = inl a
-        last (inr b) = inr (0, omega arith, b)
-    by (inr (g, k, l)) = inr (suc g, omega arith, l)
-
--- some type bears a load that doesn't exceed the largest capacity
-pub some_bears : (s : Site) (load : ℕ) → IsValid s → load ≤ largest_capacity s → (g : ℕ) × Bears s g load
-some_bears s load v h = by (reaches s.types 0 load h)
-  where
-    by : (load ≤ 0) ⊎ ((g : ℕ) × (g < length s.types) × (load ≤ capacity_of s g)) → (g : ℕ) × Bears s g load
-    by (inl k) = (0, record { listed = omega (arith, v.some_types); enough = omega arith })
-    by (inr (g, k, l)) = (g, record { listed = k; enough = l })

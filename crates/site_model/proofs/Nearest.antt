@@ -10,10 +10,9 @@ use Rattle.cable_definitions.specs.declared.site.Kind.{Kind}
 use Rattle.cable_definitions.specs.declared.site.Kind.TheVariants.{Turbine, Substation, Bend}
 use Rattle.cable_definitions.specs.declared.site.Point.{Point}
 use Rattle.cable_definitions.specs.Site.{Site, IsValid}
-use Rattle.cable_definitions.specs.Arcs.{IsCandidate, Bears, IsCheapest, cost_of, kind_of, kind_from, power_of, power_of_kind, is_turbine, length_between, capacity_of, capacity_from, largest_capacity, charge_of}
+use Rattle.cable_definitions.specs.Arcs.{IsCandidate, Bears, IsCheapest, cost_of, kind_of, kind_from, power_of, is_turbine, length_between, capacity_of, capacity_from, charge_of}
 use Rattle.cable_definitions.specs.Budget.{IsLeastOut, LeastOutAt, AreLeastOut, IsNearest}
 use Rattle.site_model.specs.Best.{IsLeastOutBelow, IsLeastBelow, IsShare, least_with, most_cost}
-use Rattle.site_model.proofs.Cheapest.{some_bears}
 use Rattle.site_model.proofs.Costs.{rate_small, metres_small, charge_small, type_at, cost_read, cost_from_read}
 
 -- what a least cost says of the arc to a point
@@ -31,10 +30,6 @@ no_arc s p q (Some cost) n h = record {
   reached = h.reached;
   least = λ k other l. below_more (IsUnder s p cost) q (λ k l other. h.least k other l) (λ other c b. absurd (n c)) k l other;
 }
-
--- the power of a candidate arc's start is borne by some type
-pub arc_borne : (s : Site) (p q : ℕ) → IsValid s → IsCandidate s p q → (g : ℕ) × Bears s g (power_of s p)
-arc_borne s p q v c = some_bears s (power_of s p) v (subst (λ (k : ℕ). k ≤ largest_capacity s) (sym (ap (λ (o : Option Point). power_of_kind (kind_from o)) c.from_is)) c.bearable)
 
 -- the cheapest type is under all types
 cheapest_under : (s : Site) (p q load grade cost : ℕ) → IsCheapest s p q load grade → cost ≡ cost_of s p q grade load → (other : ℕ) → Bears s other load → cost ≤ cost_of s p q other load

@@ -2,6 +2,7 @@
 use Rattle.std.proofs.Common.{◌≡◌, ◌≢◌, ℕ, ◌+◌, ◌<◌, ◌≤◌, ◌⊎◌, inl, inr, List, length, slice_get, Option, Some, None, IfSome, IfNone, min, below_more, refl, ◌∙◌, subst, arith}
 use Rattle.std.proofs.lemmas.Bool.{cases_lt}
 use Rattle.std.proofs.lemmas.Option.{slice_get_cases}
+use Rattle.number_laws.proofs.Places.{same_item}
 use Rattle.cable_definitions.specs.declared.cable.Arc.{Arc}
 use Rattle.cable_definitions.specs.declared.row.Mark.{Mark}
 use Rattle.cable_definitions.specs.declared.row.Mark.TheVariants.{Unused}
@@ -10,8 +11,9 @@ use Rattle.cable_definitions.specs.Arcs.{Bears, power_of, cost_of}
 use Rattle.candidate_cables.specs.Tables.{IsFirstFrom}
 use Rattle.site_model.specs.Best.{most_cost}
 use Rattle.turbine_weights.specs.Turbines.{IsLeft, IsLeastLeft}
-use Rattle.turbine_weights.specs.Least.{IsOwnCost, lesser_cost}
-use Rattle.turbine_weights.proofs.OwnCosts.{same_place}
+use Rattle.candidate_cables.specs.OwnCosts.{IsOwnCost}
+use Rattle.candidate_cables.proofs.OwnCosts.{own_cost-least}
+use Rattle.turbine_weights.specs.Least.{lesser_cost}
 
 -- what a least cost says of arc number b
 abbrev pub IsUnder : Site → List Arc → List Mark → ℕ → ℕ → ℕ → Type 0
@@ -38,11 +40,15 @@ pub record IsCostLeft (s : Site) (arcs : List Arc) (marks : List Mark) (n : ℕ)
   pub left : IfSome cost (λ c. slice_get marks n ≢ Some Unused)
   pub own : IfSome cost (λ c. (arc : Arc) → slice_get arcs n ≡ Some arc → IsOwnCost s arc c)
 
+-- a mark that isn't `Unused`
+pub mark_left : (marks : List Mark) (i : ℕ) (mark : Mark) → slice_get marks i ≡ Some mark → mark ≢ Unused → slice_get marks i ≢ Some Unused
+mark_left marks i mark e n f = n (same_item marks i mark Unused e f)
+
 -- the own cost of an arc is under those of its types
 under_own : (s : Site) (arcs : List Arc) (marks : List Mark) (arc : Arc) (n cost low : ℕ) → slice_get arcs n ≡ Some arc → IsOwnCost s arc cost → low ≤ cost → IsUnder s arcs marks arc.from low n
 under_own s arcs marks arc n cost low e own l other beside left bears =
-    let same = same_place arcs n arc beside e left.listed in
-    subst (λ (a : Arc). low ≤ cost_of s arc.from a.to other (power_of s arc.from)) same (omega (arith, l, own.least other bears))
+    let same = same_item arcs n arc beside e left.listed in
+    subst (λ (a : Arc). low ≤ cost_of s arc.from a.to other (power_of s arc.from)) same (omega (arith, l, own_cost-least s arc cost own other bears))
 
 -- one arc more out of the point
 more_left : (s : Site) (arcs : List Arc) (marks : List Mark) (arc : Arc) (n : ℕ) (least cost : Option ℕ) → slice_get arcs n ≡ Some arc → IsCostLeft s arcs marks n cost
@@ -53,7 +59,7 @@ more_left s arcs marks arc n None (Some cost) e c h = record {
   arc = arc;
   grade = (c.own arc e).grade;
   is_left = record { listed = e; start = refl; not_unused = c.left };
-  bears = (c.own arc e).bears;
+  bears = (c.own arc e).cheapest.bears;
   reached = (c.own arc e).reached;
   least = below_more (IsUnder s arcs marks arc.from cost) n (λ k l other beside left. absurd (h k l beside left)) (under_own s arcs marks arc n cost cost e (c.own arc e) (omega arith));
 }
@@ -74,7 +80,7 @@ more_left s arcs marks arc n (Some least) (Some cost) e c h = by (cases_lt cost 
       arc = arc;
       grade = (c.own arc e).grade;
       is_left = record { listed = e; start = refl; not_unused = c.left };
-      bears = (c.own arc e).bears;
+      bears = (c.own arc e).cheapest.bears;
       reached = m ∙ (c.own arc e).reached;
       least = below_more (IsUnder s arcs marks arc.from (min least cost)) n (λ k k_below other beside left b. omega (arith, m, l, h.least k k_below other beside left b)) (under_own s arcs marks arc n cost (min least cost) e (c.own arc e) (omega (arith, m)));
     }

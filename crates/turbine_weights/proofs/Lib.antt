@@ -1,5 +1,3 @@
--- the cost of an arc at the power of its start
-pub mod OwnCosts
 -- the least cost of the arcs that are left, arc by arc
 pub mod LeastLeft
 -- the weights of turbines, row by row

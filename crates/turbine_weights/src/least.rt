@@ -6,9 +6,10 @@ ghost use Rattle.cable_definitions.specs.declared.row.Mark.TheVariants.{Unused};
 ghost use Rattle.cable_definitions.specs.Arcs.{AreArcs};
 ghost use Rattle.site_model.specs.Best.{most_cost};
 ghost use Rattle.turbine_weights.specs.Turbines.{IsLeft, IsLeastLeft};
-ghost use Rattle.turbine_weights.specs.Least.{IsOwnCost, lesser_cost as lesser_of};
+ghost use Rattle.candidate_cables.specs.OwnCosts.{IsOwnCost};
+ghost use Rattle.turbine_weights.specs.Least.{lesser_cost as lesser_of};
 
-use candidate_cables::{Arc, Arcs};
+use candidate_cables::{Arcs, own_cost};
 use node_works::{Decisions, Mark};
 use site_model::Site;
 
@@ -25,13 +26,7 @@ fn cost_left(site: &Site, arcs: &Arcs, decisions: &Decisions, number: u32) -> Op
     if let Mark::Unused = decisions.mark(number) {
         return None;
     }
-    let Arc { from, to, .. } = arcs.get(number);
-    let power = site.points()[from as usize].kind.power();
-    match site.cheapest(from, to, power) {
-        Some((_, cost)) => Some(cost),
-        // Some type bears the power of the start of a candidate arc.
-        None => None,
-    }
+    Some(own_cost(site, arcs, number))
 }
 
 /// The lesser of two costs, of which each may be missing.

@@ -20,10 +20,10 @@ returns-in_err-accepted g c =
     let read = c.in-Ok.ensures in
     let p = err_from_is_err_and c.from_residual-in_err-accepted.result c.from_residual-in_err-accepted.ensures.1 in
     rw p.1 (document_fails (effect (g.S.Source.state c.args.input.now) (g.S.Source.state c.read_document.new.src)) c.in_err-accepted.field-0.0
-    p.0 c.in-Ok.site c.in_ok-_arcs._arcs (ahead lines (g.S.Source.state c.args.input.now)) (ahead c.read_site.new.lines (g.S.Source.state c.read_site.new.src))
-    c.read_site.new.lines.lines lines.lines p.2 read.valid c.in_ok-_arcs.ensures read.text
+    p.0 c.in-Ok.site (ahead lines (g.S.Source.state c.args.input.now)) (ahead c.read_site.new.lines (g.S.Source.state c.read_site.new.src))
+    c.read_site.new.lines.lines lines.lines p.2 read.valid read.text
     (λ bytes told. fresh_ahead lines.pending (g.S.Source.state c.args.input.now).bytes bytes (ap (λ (x : LinesState). x.pending) c.in_ok-lines.ensures) told) (ap (λ (x : LinesState). x.lines) c.in_ok-lines.ensures) read.lines read.few
-    c.in_err-accepted.ensures.refused
+    c.in_err-accepted.ensures.refused c.in_err-accepted.ensures.listed
     (λ e. Rose-after (g.S.Source.state c.args.input.now).faults (g.S.Source.state c.read_site.new.src).faults (g.S.Source.state c.read_document.new.src).faults read.count (c.in_err-accepted.ensures.read e)))
 
 pub returns : goal.returns

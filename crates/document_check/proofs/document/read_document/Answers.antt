@@ -1,7 +1,18 @@
-use Rattle.std.proofs.Common.{◌≡◌, Err, rules}
+use Rattle.std.proofs.Common.{◌≡◌, List, Err, rules}
+use Rattle.cable_definitions.specs.declared.cable.Arc.{Arc}
+use Rattle.cable_definitions.specs.Arcs.{AreArcs}
 use Rattle.cable_text.specs.Lines.{ahead}
-use Rattle.document_check.proofs.Stages.{items_refused, end_refused, source_end}
+use Rattle.document_check.proofs.Stages.{of_any, items_refused, end_refused, source_end}
 use Rattle.document_check.proofs.document.read_document.Goals as goal
+
+pub returns-in_err-checker-clause-listed : goal.returns-in_err-checker-clause-listed
+returns-in_err-checker-clause-listed g c = of_any c.from_residual.result (λ refusal. (arcs : List Arc) × AreArcs c.args.site.now arcs) (λ refusal. (c.in-Ok.arcs, c.in-Ok.ensures))
+
+pub returns-in_err-count-clause-listed : goal.returns-in_err-count-clause-listed
+returns-in_err-count-clause-listed g c = of_any c.from_residual-in_err-count.result (λ refusal. (arcs : List Arc) × AreArcs c.args.site.now arcs) (λ refusal. (c.in-Ok.arcs, c.in-Ok.ensures))
+
+pub returns-in_err-claim-clause-listed : goal.returns-in_err-claim-clause-listed
+returns-in_err-claim-clause-listed g c = of_any c.from_residual-in_err-claim.result (λ refusal. (arcs : List Arc) × AreArcs c.args.site.now arcs) (λ refusal. (c.in-Ok.arcs, c.in-Ok.ensures))
 
 pub returns-in_err-count-clause-refused : goal.returns-in_err-count-clause-refused
 returns-in_err-count-clause-refused g c refusal bytes arcs is told are small =

@@ -2,7 +2,8 @@ use Rattle.std.proofs.Common.{subst, sym, ◌≡◌, ◌+◌, ℕ}
 use Rattle.cable_definitions.specs.Arcs.{IsCheapest, Bears, cost_of}
 use Rattle.site_model.specs.Best.{IsLeastOutBelow}
 use Rattle.site_model.proofs.Passed.{denied}
-use Rattle.site_model.proofs.Nearest.{no_arc, arc_borne, one_more_arc}
+use Rattle.layout_laws.proofs.Straightest.{arc-borne}
+use Rattle.site_model.proofs.Nearest.{no_arc, one_more_arc}
 use Rattle.site_model.proofs.Site.lesser_of_ends.Goals as goal
 
 pub returns-then-not-is_candidate : goal.returns-then-not-is_candidate
@@ -13,7 +14,7 @@ returns-then-not-is_candidate c =
 pub returns-in-None : goal.returns-in-None
 returns-in-None c =
     let s = c.args.self.now in
-    let b = arc_borne s c.args.p c.args.q c.requires.valid (c.is_candidate.ensures.0 c.if-not-is_candidate.false) in
+    let b = arc-borne s c.args.p c.args.q c.requires.valid.some_types (c.is_candidate.ensures.0 c.if-not-is_candidate.false) in
     absurd (c.in-None.ensures.none b.0 (subst (Bears s b.0) (sym c.requires.power) b.1))
 
 pub returns-in-Some : goal.returns-in-Some

@@ -1,7 +1,7 @@
 use Rattle.std.proofs.Common.{◌≢◌, ◌≤◌, ◌+◌, get_or, arith, sym, subst}
 use Rattle.std.specs.Prelude.{slice_index}
 use Rattle.cable_definitions.specs.declared.cable.Cable.{Cable}
-use Rattle.layout_meaning.proofs.Places.{slice_get_at}
+use Rattle.std.proofs.lemmas.Option.{slice_get-get_or}
 use Rattle.layout_meaning.proofs.LoadSums.{start_below}
 use Rattle.start_layout.specs.Floors.{AreOthersAbove}
 use Rattle.start_layout.proofs.Cutting.{others_kept, others_added}
@@ -13,7 +13,7 @@ abbrev no_cable : Cable
 no_cable = record { from = 0; to = 0; grade = 0 }
 
 pub bounds-leasts-cable : goal.bounds-leasts-cable
-bounds-leasts-cable c = start_below c.args.site.now c.args.cables.now c.loop-cable.cable-index _ c.requires.valid c.requires.range (slice_get_at c.args.cables.now c.loop-cable.cable-index no_cable c.loop-cable-test.true)
+bounds-leasts-cable c = start_below c.args.site.now c.args.cables.now c.loop-cable.cable-index _ c.requires.valid c.requires.range (slice_get-get_or c.args.cables.now c.loop-cable.cable-index no_cable c.loop-cable-test.true)
 
 pub loop-cable-preserved : goal.loop-cable-preserved
 loop-cable-preserved c = λ q below.
@@ -23,7 +23,7 @@ loop-cable-preserved c = λ q below.
     let i = c.loop-cable.cable-index in
     let base = c.loop-cable.total in
     let here : Cable = get_or cables i no_cable in
-    let e = slice_get_at cables i no_cable c.loop-cable-test.true in
+    let e = slice_get-get_or cables i no_cable c.loop-cable-test.true in
     elim c.if-cable-start.branch [
       | then-cable-start w ↦ (
           let elsewhere : here.from ≢ p = λ g. absurd (omega (arith, g, w.if-cable-start.true)) in
